@@ -1,0 +1,170 @@
+-- Bits of a number, and the set of a list without repeats as a number.
+use mathlib.Core.Path.{_≡_, refl, sym, ap, ap₂, _∙_}
+use mathlib.Core.Logic.{_≢_, _⊎_, inl, inr, ⊎-elim}
+use mathlib.Core.List.{List, [], _∷_, _++_, List·Memᴰ, List·Memᴰ·head, List·Memᴰ·tail, List·Memᴰ·cases-cons, List·Memᴰ·not-nil, Memᴰ·append-left, Memᴰ·append-right, List·Memᴰ·append-cases, Memᴰ·cast}
+use Prim.Native.Nat.{ℕ, zero, suc, _+_, _-_, _*_, _/_, _%_, _^_, _≤_, _<_, min}
+use native.Mathlib.Nat.{pow-suc}
+use native.Mathlib.Omega.{arith}
+use native.Mathlib.Decide.{ℕ-discrete, decLt}
+use lib.Pow.{pow-pos}
+use lib.Bits.{bitAnd, and-step}
+use Rattle.semantics.specs.Lists.{_∈_, Distinct}
+use Rattle.semantics.specs.Heap.{setOf}
+
+-- bit i of n, 0 or 1
+pub bit : ℕ → ℕ → ℕ
+bit n zero = n % 2
+bit n (suc i) = bit (n / 2) i
+
+pub bit-small : (n i : ℕ) → bit n i < 2
+unfolding bit
+bit-small n zero = omega arith
+bit-small n (suc i) = bit-small (n / 2) i
+
+bit-zero : (i : ℕ) → bit 0 i ≡ 0
+unfolding bit
+bit-zero zero = refl
+bit-zero (suc i) = bit-zero i
+
+-- adding a power whose bit is 0 sets that bit
+pub bit-add-same : (m i : ℕ) → bit m i ≡ 0 → bit (2 ^ i + m) i ≡ 1
+unfolding bit
+bit-add-same m zero h = omega arith
+bit-add-same m (suc i) h =
+    ap (λ (n : ℕ). bit n i) (omega (arith, pow-suc 2 i)) ∙ bit-add-same (m / 2) i h
+
+-- and no other
+pub bit-add-other : (m i j : ℕ) → bit m i ≡ 0 → i ≢ j → bit (2 ^ i + m) j ≡ bit m j
+unfolding bit
+bit-add-other m zero zero h n = absurd (n refl)
+bit-add-other m zero (suc j) h n = ap (λ (k : ℕ). bit k j) (omega arith)
+bit-add-other m (suc i) zero h n = omega (arith, pow-suc 2 i)
+bit-add-other m (suc i) (suc j) h n =
+    ap (λ (k : ℕ). bit k j) (omega (arith, pow-suc 2 i)) ∙ bit-add-other (m / 2) i j h (λ e. n (ap suc e))
+
+-- the bits of a conjunction
+pub bit-and : (a b i : ℕ) → bit (bitAnd a b) i ≡ min (bit a i) (bit b i)
+unfolding bit
+bit-and a b zero = omega (arith, and-step a b)
+bit-and a b (suc i) = ap (λ (k : ℕ). bit k i) (omega (arith, and-step a b)) ∙ bit-and (a / 2) (b / 2) i
+
+-- a number all of whose bits from k on are 0 is below 2 ^ k
+no-bits : (n fuel : ℕ) → n ≤ fuel → ((i : ℕ) → bit n i ≡ 0) → n ≡ 0
+unfolding bit
+no-bits n zero h none = omega arith
+no-bits n (suc fuel) h none =
+    let e = no-bits (n / 2) fuel (omega arith) (λ i. none (suc i)) in
+    omega (arith, none 0)
+
+pub bits-zero : (n : ℕ) → ((i : ℕ) → bit n i ≡ 0) → n ≡ 0
+bits-zero n none = no-bits n n (omega arith) none
+
+pub bits-below : (n k : ℕ) → ((i : ℕ) → k ≤ i → bit n i ≡ 0) → n < 2 ^ k
+unfolding bit
+bits-below n zero none = let e = bits-zero n (λ i. none i (omega arith)) in omega arith
+bits-below n (suc k) none =
+    let h = bits-below (n / 2) k (λ i l. none (suc i) (omega arith)) in
+    omega (arith, pow-suc 2 k)
+
+-- the bits of the set of a list without repeats are its members
+pub bit-out : (is : List ℕ) → Distinct is → (j : ℕ) → ¬ (j ∈ is) → bit (setOf is) j ≡ 0
+bit-out [] d j n = bit-zero j
+bit-out (i ∷ is) (Distinct.next h d) j n =
+    bit-add-other (setOf is) i j (bit-out is d i h) (λ e. n (List·Memᴰ·head (sym e))) ∙ bit-out is d j (λ m. n (List·Memᴰ·tail m))
+
+pub bit-in : (is : List ℕ) → Distinct is → (j : ℕ) → j ∈ is → bit (setOf is) j ≡ 1
+bit-in [] d j m = absurd (List·Memᴰ·not-nil m)
+bit-in (i ∷ is) (Distinct.next h d) j m = step (List·Memᴰ·cases-cons m) (bit-in is d j)
+  where
+    step : (j ≡ i) ⊎ (j ∈ is) → (j ∈ is → bit (setOf is) j ≡ 1) → bit (setOf (i ∷ is)) j ≡ 1
+    step (inl e) rec = rw e (bit-add-same (setOf is) i (bit-out is d i h))
+    step (inr m′) rec = bit-add-other (setOf is) i j (bit-out is d i h) (λ e. h (Memᴰ·cast e m′)) ∙ rec m′
+
+-- membership is decided
+pub decIn : (i : ℕ) (is : List ℕ) → Dec (i ∈ is)
+decIn i [] = no List·Memᴰ·not-nil
+decIn i (x ∷ is) = step (ℕ-discrete i x) (decIn i is)
+  where
+    step : Dec (i ≡ x) → Dec (i ∈ is) → Dec (i ∈ x ∷ is)
+    step (yes e) d = yes (List·Memᴰ·head e)
+    step (no n) (yes m) = yes (List·Memᴰ·tail m)
+    step (no n) (no n′) = no (λ h. ⊎-elim n n′ (List·Memᴰ·cases-cons h))
+
+pub setOf-append : (xs ys : List ℕ) → setOf (xs ++ ys) ≡ setOf xs + setOf ys
+setOf-append [] ys = omega arith
+setOf-append (x ∷ xs) ys = omega (arith, setOf-append xs ys)
+
+-- lists without repeats, put together and taken apart
+pub distinct-left : (xs ys : List ℕ) → Distinct (xs ++ ys) → Distinct xs
+distinct-left [] ys d = Distinct.none
+distinct-left (x ∷ xs) ys (Distinct.next n d) = Distinct.next (λ m. n (Memᴰ·append-left ys m)) (distinct-left xs ys d)
+
+pub distinct-right : (xs ys : List ℕ) → Distinct (xs ++ ys) → Distinct ys
+distinct-right [] ys d = d
+distinct-right (x ∷ xs) ys (Distinct.next n d) = distinct-right xs ys d
+
+pub distinct-apart : (xs ys : List ℕ) → Distinct (xs ++ ys) → (i : ℕ) → i ∈ xs → ¬ (i ∈ ys)
+distinct-apart [] ys d i m k = List·Memᴰ·not-nil m
+distinct-apart (x ∷ xs) ys (Distinct.next n d) i m k =
+    ⊎-elim (λ (e : i ≡ x). n (Memᴰ·append-right xs (Memᴰ·cast (sym e) k))) (λ (m′ : i ∈ xs). distinct-apart xs ys d i m′ k) (List·Memᴰ·cases-cons m)
+
+pub distinct-append : (xs ys : List ℕ) → Distinct xs → Distinct ys → ((i : ℕ) → i ∈ xs → ¬ (i ∈ ys)) → Distinct (xs ++ ys)
+distinct-append [] ys dx dy apart = dy
+distinct-append (x ∷ xs) ys (Distinct.next n dx) dy apart =
+    Distinct.next (λ m. ⊎-elim n (apart x (List·Memᴰ·head refl)) (List·Memᴰ·append-cases xs m))
+    (distinct-append xs ys dx dy (λ i m. apart i (List·Memᴰ·tail m)))
+
+-- two sets share no bit exactly if the lists share no member
+pub apart-and : (xs ys : List ℕ) → Distinct xs → Distinct ys → ((i : ℕ) → i ∈ xs → ¬ (i ∈ ys)) → bitAnd (setOf xs) (setOf ys) ≡ 0
+apart-and xs ys dx dy apart = bits-zero (bitAnd (setOf xs) (setOf ys)) (λ i. bit-and (setOf xs) (setOf ys) i ∙ step i (decIn i xs))
+  where
+    step : (i : ℕ) → Dec (i ∈ xs) → min (bit (setOf xs) i) (bit (setOf ys) i) ≡ 0
+    step i (yes m) = omega (arith, bit-out ys dy i (apart i m))
+    step i (no n) = omega (arith, bit-out xs dx i n)
+
+pub and-apart : (xs ys : List ℕ) → Distinct xs → Distinct ys → bitAnd (setOf xs) (setOf ys) ≡ 0 → (i : ℕ) → i ∈ xs → ¬ (i ∈ ys)
+and-apart xs ys dx dy e i m k =
+    omega (arith, bit-in xs dx i m, bit-in ys dy i k, bit-and (setOf xs) (setOf ys) i, ap (λ (n : ℕ). bit n i) e, bit-zero i)
+
+-- a set of numbers below k is below 2 ^ k
+pub setOf-below : (k : ℕ) (is : List ℕ) → Distinct is → ((i : ℕ) → i ∈ is → i < k) → setOf is < 2 ^ k
+setOf-below k is d below = bits-below (setOf is) k (λ i h. bit-out is d i (λ m. omega (arith, below i m)))
+
+-- the set of all numbers below n
+bit-ones-in : (n i : ℕ) → i < n → bit (2 ^ n - 1) i ≡ 1
+unfolding bit
+bit-ones-in zero i h = absurd (omega arith)
+bit-ones-in (suc n) zero h = omega (arith, pow-suc 2 n, pow-pos n)
+bit-ones-in (suc n) (suc i) h = ap (λ (k : ℕ). bit k i) (omega (arith, pow-suc 2 n, pow-pos n)) ∙ bit-ones-in n i (omega arith)
+
+bit-ones-out : (n i : ℕ) → n ≤ i → bit (2 ^ n - 1) i ≡ 0
+unfolding bit
+bit-ones-out zero i h = bit-zero i
+bit-ones-out (suc n) zero h = absurd (omega arith)
+bit-ones-out (suc n) (suc i) h = ap (λ (k : ℕ). bit k i) (omega (arith, pow-suc 2 n, pow-pos n)) ∙ bit-ones-out n i (omega arith)
+
+same-bits-fuel : (a b fuel : ℕ) → a ≤ fuel → b ≤ fuel → ((i : ℕ) → bit a i ≡ bit b i) → a ≡ b
+unfolding bit
+same-bits-fuel a b zero ha hb h = omega arith
+same-bits-fuel a b (suc fuel) ha hb h =
+    omega (arith, h 0, same-bits-fuel (a / 2) (b / 2) fuel (omega arith) (omega arith) (λ i. h (suc i)))
+
+pub same-bits : (a b : ℕ) → ((i : ℕ) → bit a i ≡ bit b i) → a ≡ b
+same-bits a b h = same-bits-fuel a b (a + b) (omega arith) (omega arith) h
+
+pub whole-set : (n : ℕ) (is : List ℕ) → Distinct is → ((i : ℕ) → i ∈ is → i < n) → ((i : ℕ) → i < n → i ∈ is) → setOf is ≡ 2 ^ n - 1
+whole-set n is d below all = same-bits (setOf is) (2 ^ n - 1) (λ i. step i (decLt i n))
+  where
+    step : (i : ℕ) → Dec (i < n) → bit (setOf is) i ≡ bit (2 ^ n - 1) i
+    step i (yes h) = bit-in is d i (all i h) ∙ sym (bit-ones-in n i h)
+    step i (no h) = bit-out is d i (λ m. h (below i m)) ∙ sym (bit-ones-out n i (omega arith))
+
+pub whole-members : (n : ℕ) (is : List ℕ) → Distinct is → setOf is ≡ 2 ^ n - 1 → (i : ℕ) → i < n → i ∈ is
+whole-members n is d e i h = step (decIn i is)
+  where
+    step : Dec (i ∈ is) → i ∈ is
+    step (yes m) = m
+    step (no k) = absurd (omega (arith, bit-out is d i k, bit-ones-in n i h, ap (λ (m : ℕ). bit m i) e))
+
+pub whole-below : (n k : ℕ) → n ≤ k → 2 ^ n - 1 < 2 ^ k
+whole-below n k h = bits-below (2 ^ n - 1) k (λ i l. bit-ones-out n i (omega arith))

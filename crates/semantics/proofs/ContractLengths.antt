@@ -1,0 +1,73 @@
+-- What is lent keeps its length in every outcome: the facts and the lines that are written fit.
+use mathlib.Core.Path.{_≡_, refl, sym, ap, _∙_}
+use mathlib.Core.Logic.{_≢_, _⊎_, ⊎-elim}
+use mathlib.Core.List.{List, [], _∷_, _++_, List·Memᴰ, List·Memᴰ·head, List·Memᴰ·tail, List·Memᴰ·cases-cons, List·Memᴰ·not-nil}
+use Prim.Native.Nat.{ℕ, zero, suc, _+_, _-_, _*_, _≤_, _<_}
+use native.Mathlib.Omega.{arith}
+use lib.ListN.{length, length-append, length-replicate}
+use Rattle.semantics.specs.Lists.{_∈_, Distinct, zeros}
+use Rattle.semantics.specs.Reader.{Result, refused}
+use Rattle.semantics.specs.Formats.{Input, ladder, WellFormedInput}
+use Rattle.semantics.specs.Domain.{good}
+use Rattle.semantics.specs.Certificate.{factAt, Certificate, Trimmed}
+use Rattle.semantics.specs.Contract.{domainOf, TrimmedInput, CompletedInput, Filled, padded, Lent, Answers, Decided}
+use Rattle.semantics.proofs.FixedPoint.{holding-counted}
+use Rattle.semantics.proofs.FormatsFacts.{ladder-read}
+use Rattle.semantics.proofs.WordsSmall.{line-holds}
+use Rattle.semantics.specs.declared.Reply.{Reply}
+
+facts-to : List ℕ → ℕ → List ℕ
+facts-to words zero = []
+facts-to words (suc n) = factAt words (suc n) ∷ facts-to words n
+
+to-length : (words : List ℕ) (n : ℕ) → length (facts-to words n) ≡ n
+unfolding facts-to
+to-length words zero = refl
+to-length words (suc n) = ap suc (to-length words n)
+
+to-member : (words : List ℕ) (n f : ℕ) → f ∈ facts-to words n → (k : ℕ) × (1 ≤ k) × (k ≤ n) × (f ≡ factAt words k)
+unfolding facts-to
+to-member words zero f m = absurd (List·Memᴰ·not-nil m)
+to-member words (suc n) f m =
+    ⊎-elim (λ e. (suc n, omega arith, omega arith, e)) (λ i. let (k, a, b, e) = to-member words n f i in (k, a, omega arith, e)) (List·Memᴰ·cases-cons m)
+
+to-distinct : (words : List ℕ) (n : ℕ) → ((j k : ℕ) → 1 ≤ j → j < k → k ≤ n → factAt words j ≢ factAt words k) → Distinct (facts-to words n)
+unfolding facts-to
+to-distinct words zero once = Distinct.none
+to-distinct words (suc n) once =
+    Distinct.next (λ m. let (k, a, b, e) = to-member words n (factAt words (suc n)) m in once k (suc n) a (omega arith) (omega arith) (sym e))
+    (to-distinct words n (λ j k a b c. once j k a b (omega arith)))
+
+pub lines-fit : (i : Input) → WellFormedInput i → (words : List ℕ) (u : TrimmedInput i words) {r : ℕ} {facts : List ℕ} → CompletedInput i r facts → u .taken .count ≤ length facts
+lines-fit i h words u c =
+    omega (
+      arith,
+      to-length words (u .taken .count),
+      holding-counted (i .ruleSet) (i .heap) (domainOf i) (c .complete) (facts-to words (u .taken .count)) (to-distinct words (u .taken .count) (u .once))
+          (λ f m. let (k, a, b, e) = to-member words (u .taken .count) f m in rw e (line-holds i h words (u .taken) k k (omega arith) a b)),
+    )
+
+padded-length : (n : ℕ) (xs : List ℕ) → length xs ≤ n → length (padded n xs) ≡ n
+padded-length n xs l = omega (arith, length-append xs (zeros (n - length xs)), length-replicate {A = ℕ} (n - length xs) 0)
+
+pub record Keeps (table space table′ space′ : List ℕ) : Type 0 where
+  pub tables : length table′ ≡ length table
+  pub spaces : length space′ ≡ length space
+
+pub decided-lengths : (book snapshot question table space : List ℕ) {r : Reply} {table′ space′ : List ℕ} → Decided book snapshot question table space r table′ space′ → Keeps table space table′ space′
+decided-lengths b s q table space (Decided.unread n e a t p) = record { tables = ap length t; spaces = ap length p }
+decided-lengths b s q table space (Decided.unlent i e l a t p) = record { tables = ap length t; spaces = ap length p }
+decided-lengths b s q table space {r} {table′} {space′} (Decided.answered i e l w) = by w
+  where
+    h : WellFormedInput i
+    h = ladder-read b s q i e
+
+    by : Answers i (length table) r table′ space′ → Keeps table space table′ space′
+    by (Answers.over m a t p) =
+        record { tables = ap length t ∙ length-replicate {A = ℕ} (length table) 0; spaces = omega (arith, ap length p, length-replicate {A = ℕ} (3 * length table) 0, l .three) }
+    by (Answers.fits-not rounds facts w f a p) =
+        record { tables = ap length (w .is-table) ∙ padded-length (length table) facts (w .room); spaces = omega (arith, ap length p, length-replicate {A = ℕ} (3 * length table) 0, l .three) }
+    by (Answers.fits rounds facts words w f u a p) = record {
+      tables = ap length (w .is-table) ∙ padded-length (length table) facts (w .room);
+      spaces = omega (arith, ap length p, padded-length (3 * length table) words (omega (arith, u .taken .whole, lines-fit i h words u (w .completed), w .room)), l .three);
+    }

@@ -1,0 +1,66 @@
+-- There is always a complete table; it has no fact twice; and "more facts than n" is that its length is above n.
+use mathlib.Core.Path.{_≡_, refl, sym, ap, ap₂, _∙_}
+use mathlib.Core.Logic.{_≢_, _↔_, _⊎_, inl, inr, ⊎-elim}
+use mathlib.Core.List.{List, [], _∷_, _++_, map, List·Memᴰ, List·Memᴰ·head, List·Memᴰ·tail, List·Memᴰ·cases-cons, List·Memᴰ·not-nil, List·Memᴰ·append-cases, Memᴰ·cast}
+use Prim.Native.Nat.{ℕ, zero, suc, _+_, _*_, _^_, _≤_, _<_}
+use native.Mathlib.Omega.{arith}
+use native.Mathlib.Decide.{decLt}
+use lib.ListN.{length, length-append}
+use Rattle.semantics.specs.Lists.{_∈_, Distinct, Ascending}
+use Rattle.semantics.specs.RuleSet.{RuleSet, arity, WellFormed}
+use Rattle.semantics.specs.Heap.{Heap, wholeOf}
+use Rattle.semantics.specs.Formats.{Input, WellFormedInput}
+use Rattle.semantics.specs.Tree.{Tree, Applies, Fits}
+use Rattle.semantics.specs.Domain.{domain}
+use Rattle.semantics.specs.Fact.{position, code, fact}
+use Rattle.semantics.specs.Rounds.{Ground, Follows, Table, After, Complete, Holds, MoreThan}
+use Rattle.semantics.specs.Contract.{domainOf, HoldsInput, FitsInput, MoreFactsThan, CompletedInput}
+use Rattle.semantics.proofs.Bits.{decIn, distinct-append}
+use Rattle.semantics.proofs.Pigeon.{pigeon}
+use Rattle.semantics.proofs.Order.{tail-ascending, head-below}
+use Rattle.semantics.proofs.FixedPoint.{holds-follows, table-holds, complete-has, complete-unique}
+use Rattle.semantics.proofs.Soundness.{Sound, sound, part-small}
+use Rattle.semantics.proofs.Verdict.{limits, verdict}
+use Rattle.semantics.proofs.Evaluator.{newFacts}
+use Rattle.semantics.proofs.Evaluation.{new-facts, new-ascending}
+use Rattle.semantics.proofs.Termination.{completed, table-distinct}
+
+pub completed-exists : (i : Input) → WellFormedInput i → (rounds : ℕ) × (facts : List ℕ) × CompletedInput i rounds facts
+completed-exists i h =
+    completed (i .ruleSet) (i .heap) (i .values) (h .valid)
+
+pub completed-unique : (i : Input) {r s : ℕ} {xs ys : List ℕ} → CompletedInput i r xs → CompletedInput i s ys → (r ≡ s) × (xs ≡ ys)
+completed-unique i a b = complete-unique (i .ruleSet) (i .heap) (domainOf i) (a .after) (a .complete) (b .after) (b .complete)
+
+-- 11 is exact: more facts than n exactly if the complete table is longer than n
+pub more-facts : (i : Input) {r : ℕ} {xs : List ℕ} → CompletedInput i r xs → (n : ℕ) → MoreFactsThan i n ↔ (n < length xs)
+more-facts i {xs} c n = (to, from)
+  where
+    to : MoreFactsThan i n → n < length xs
+    to m = step (decLt (length xs) (length (m .witnesses)))
+      where
+        step : Dec (length xs < length (m .witnesses)) → n < length xs
+        step (no l) = omega (arith, m .many)
+        step (yes l) =
+            let p = pigeon (m .witnesses) xs (m .distinct) l in
+            absurd (p .2 (complete-has (i .ruleSet) (i .heap) (domainOf i) (c .complete) (p .0) (m .each (p .0) (p .1))))
+
+    from : n < length xs → MoreFactsThan i n
+    from l = record {
+      witnesses = xs;
+      distinct = table-distinct (c .after);
+      many = l;
+      each = table-holds (i .ruleSet) (i .heap) (domainOf i) (c .after);
+    }
+
+-- the query is decided
+pub fits-decided : (i : Input) → WellFormedInput i → Dec (FitsInput i)
+fits-decided i h =
+    let (r, xs, c) = completed-exists i h in
+    let v = verdict (i .ruleSet) (i .heap) (i .values) (h .valid) (i .predicate) (h .counted) (c .after) (c .complete) in
+    step xs v (decIn (fact (domainOf i) (i .predicate) (i .values) (wholeOf (i .heap))) xs)
+  where
+    step : (xs : List ℕ) → ((fact (domainOf i) (i .predicate) (i .values) (wholeOf (i .heap)) ∈ xs) ↔ FitsInput i)
+        → Dec (fact (domainOf i) (i .predicate) (i .values) (wholeOf (i .heap)) ∈ xs) → Dec (FitsInput i)
+    step xs v (yes m) = yes (v .0 m)
+    step xs v (no n) = no (λ k. n (v .1 k))

@@ -1,0 +1,149 @@
+-- The starred rows, as one theorem: a test that computes over the whole table of rows, from the bytes on, and the lemma that a row that
+-- passes it is true.
+use mathlib.Core.Bool.{Bool, true, false, false≢true}
+use mathlib.Core.Path.{_≡_, refl, sym, ap, _∙_}
+use mathlib.Core.List.{List, [], _∷_, _++_, map, flatMap}
+use Prim.Native.Nat.{ℕ, suc, _+_, _-_, _≤_, _<_}
+use native.Mathlib.Omega.{arith}
+use lib.ListN.{length, getD}
+use lib.Dec.{eqb, leb, ltb}
+use borrow.Author.Tests.{eqb-true, leb-true}
+use Rattle.semantics.specs.Lists.{_∈_, member, digits, digitsOf}
+use Rattle.semantics.specs.Heap.{heapValues, wholeOf}
+use Rattle.semantics.specs.Reader.{Result, accepted, refused, times, counted, word}
+use Rattle.semantics.specs.Formats.{readRuleSet, readSnapshot, records, readQuery, Input, ladder, WellFormedInput}
+use Rattle.semantics.specs.Domain.{firstOutside, spares, insert, ascending, mostVariables, domain}
+use Rattle.semantics.specs.Fact.{position, code, fact}
+use Rattle.semantics.specs.Rounds.{After}
+use Rattle.semantics.specs.Contract.{domainOf, FitsInput, TrimmedInput, CompletedInput, Completed}
+use Rattle.semantics.specs.Rows.{Row, RowTrue, Verdict, LinesShown, LastShown, rows, Fault, faults}
+use Rattle.semantics.proofs.DomainFacts.{member-true, member-out}
+use Rattle.semantics.proofs.Verdict.{verdict}
+use Rattle.semantics.proofs.FormatsFacts.{ladder-read}
+use Rattle.semantics.proofs.Evaluator.{when, both, every, sameList, sameRecord, assignments, compares, meetsAll, finds, takings, answers, callings, joined, byFacts, byRecords, byTest, byValues, byArguments, byRule, Step, steps, following, dropKnown, newFacts, run, Run}
+use Rattle.semantics.proofs.Evaluation.{both-out, every-out, Done, run-done}
+use Rattle.semantics.proofs.LineCount.{ways, leave, isEmpty, isSome, avoids, exactly, line-count}
+use Rattle.semantics.proofs.Existence.{trimmed-exists}
+
+sameBool : Bool → Bool → Bool
+sameBool true b = b
+sameBool false b = elim b [ true ↦ false | false ↦ true ]
+
+sameBool-out : (a b : Bool) → sameBool a b ≡ true → a ≡ b
+unfolding sameBool
+sameBool-out true b e = sym e
+sameBool-out false true e = absurd (false≢true e)
+sameBool-out false false e = refl
+
+abbrev asked : Input → ℕ
+asked i = fact (domainOf i) (i .predicate) (i .values) (wholeOf (i .heap))
+
+-- nine rounds are enough for these rows
+result : Input → Run
+result i = run (i .ruleSet) (i .heap) (domainOf i) 9 0 []
+
+testLines : Bool → ℕ → Input → List ℕ → Bool
+testLines true lines i table = both (leb (length table) 65535) (exactly (steps (i .ruleSet) (i .heap) (domainOf i) table) lines (asked i ∷ []) [])
+testLines false lines i table = eqb lines 0
+
+testLast : List ℕ → List ℕ → Bool
+testLast [] table = true
+testLast (f ∷ fs) table = eqb (getD table (length table - 1) 0) f
+
+testRun : Row → Input → Run → Bool
+testRun row i r =
+    every (λ (b : Bool). b)
+    (r .finished ∷ eqb (r .rounds) (row .rounds) ∷ eqb (length (r .table)) (row .facts) ∷ sameBool (member (asked i) (r .table)) (row .fits)
+    ∷ testLines (row .fits) (row .lines) i (r .table) ∷ testLast (row .last) (r .table) ∷ [])
+
+testRead : Row → Result Input → Bool
+testRead row (accepted i) = testRun row i (result i)
+testRead row (refused n) = false
+
+passes : Row → Bool
+passes row = testRead row (ladder (row .book) (row .snapshot) (row .question))
+
+lines-of : (b : Bool) (lines : ℕ) (i : Input) {r : ℕ} (table : List ℕ) → WellFormedInput i → Verdict b (FitsInput i) → CompletedInput i r table
+    → testLines b lines i table ≡ true → LinesShown b lines i
+unfolding testLines
+lines-of true lines i table h fits c e =
+    let (few, e′) = both-out (leb (length table) 65535) (exactly (steps (i .ruleSet) (i .heap) (domainOf i) table) lines (asked i ∷ []) []) e in (
+      trimmed-exists (i .ruleSet) (i .heap) (i .predicate) (i .values) (h .valid) fits (c .after) (c .complete) (leb-true (length table) 65535 few),
+      λ words u. line-count (i .ruleSet) (i .heap) (i .predicate) (i .values) words u table (c .complete) lines e′,
+    )
+lines-of false lines i table h fits c e = eqb-true lines 0 e
+
+last-of : (fs table : List ℕ) → testLast fs table ≡ true → LastShown fs table
+unfolding testLast
+last-of [] table e = tt
+last-of (f ∷ fs) table e = eqb-true (getD table (length table - 1) 0) f e
+
+verdict-of : (b : Bool) (f : ℕ) (table : List ℕ) (A : Type 0) → (f ∈ table → A) → (A → f ∈ table) → member f table ≡ b → Verdict b A
+verdict-of true f table A to from e = to (member-out f table e)
+verdict-of false f table A to from e = λ a. false≢true (sym e ∙ member-true f table (from a))
+
+row-true : (row : Row) (i : Input) → ladder (row .book) (row .snapshot) (row .question) ≡ accepted i → testRun row i (result i) ≡ true → RowTrue row
+unfolding testRun result every
+row-true row i is-read e =
+    let r = result i in
+    let (fin, e₁) = both-out (r .finished) _ e in
+    let (rs, e₂) = both-out (eqb (r .rounds) (row .rounds)) _ e₁ in
+    let (fs, e₃) = both-out (eqb (length (r .table)) (row .facts)) _ e₂ in
+    let (v, e₄) = both-out (sameBool (member (asked i) (r .table)) (row .fits)) _ e₃ in
+    let (ls, e₅) = both-out (testLines (row .fits) (row .lines) i (r .table)) _ e₄ in
+    let (la, e₆) = both-out (testLast (row .last) (r .table)) _ e₅ in
+    let h = ladder-read (row .book) (row .snapshot) (row .question) i is-read in
+    let done : Done (i .ruleSet) (i .heap) (domainOf i) r = run-done (i .ruleSet) (i .heap) (domainOf i) 9 0 [] After.start fin in
+    let q : r .rounds ≡ row .rounds = eqb-true (r .rounds) (row .rounds) rs in
+    let c : CompletedInput i (row .rounds) (r .table) = record { after = rw q at (done .after); complete = done .complete } in
+    let iff = verdict (i .ruleSet) (i .heap) (i .values) (h .valid) (i .predicate) (h .counted) (done .after) (done .complete) in
+    let fits : Verdict (row .fits) (FitsInput i) =
+    verdict-of (row .fits) (asked i) (r .table) (FitsInput i) (iff .0) (iff .1) (sameBool-out (member (asked i) (r .table)) (row .fits) v) in
+    record {
+      input = i;
+      is-read = is-read;
+      table = r .table;
+      completed = c;
+      facts-counted = eqb-true (length (r .table)) (row .facts) fs;
+      verdict = fits;
+      lines-shown = lines-of (row .fits) (row .lines) i (r .table) h fits c ls;
+      last-shown = last-of (row .last) (r .table) la;
+    }
+
+passed : (row : Row) → passes row ≡ true → RowTrue row
+unfolding passes testRead
+passed row e = by (ladder (row .book) (row .snapshot) (row .question)) refl e
+  where
+    by : (r : Result Input) → ladder (row .book) (row .snapshot) (row .question) ≡ r → testRead row r ≡ true → RowTrue row
+    by (accepted i) is-read t = row-true row i is-read t
+    by (refused n) is-read t = absurd (false≢true t)
+
+-- the nine tests, computed
+rows-pass : every passes rows ≡ true
+unfolding digits digitsOf heapValues member times counted word readRuleSet readSnapshot records readQuery ladder firstOutside spares insert ascending mostVariables domain position code when both every sameList sameRecord assignments compares meetsAll finds takings answers callings joined byFacts byRecords byTest byValues byArguments byRule steps following dropKnown newFacts run flatMap sameBool result testRun testLines testLast testRead ways leave isEmpty isSome avoids exactly passes
+rows-pass = refl
+
+-- Each starred row is true: verdict, facts, rounds, lines, and the last fact that the paper gives.
+pub rows-true : (row : Row) → row ∈ rows → RowTrue row
+rows-true row m = passed row (every-out passes rows rows-pass row m)
+
+-- the faults, computed
+isRefused : ℕ → Result Input → Bool
+isRefused n (accepted i) = false
+isRefused n (refused m) = eqb m n
+
+stops : Fault → Bool
+stops fault = isRefused (fault .refusal) (ladder (fault .book) (fault .snapshot) (fault .question))
+
+faults-stop : every stops faults ≡ true
+unfolding digits times counted word readRuleSet readSnapshot records readQuery ladder both every isRefused stops
+faults-stop = refl
+
+-- Each fault is met, with its number.
+pub faults-true : (fault : Fault) → fault ∈ faults → ladder (fault .book) (fault .snapshot) (fault .question) ≡ refused (fault .refusal)
+unfolding stops isRefused
+faults-true fault m = by (ladder (fault .book) (fault .snapshot) (fault .question)) (every-out stops faults faults-stop fault m)
+  where
+    by : (r : Result Input) → isRefused (fault .refusal) r ≡ true → r ≡ refused (fault .refusal)
+    by (accepted i) t = absurd (false≢true t)
+    by (refused n) t = ap (λ (k : ℕ). refused k) (eqb-true n (fault .refusal) t)

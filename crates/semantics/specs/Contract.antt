@@ -1,0 +1,180 @@
+-- What the public calls promise: the reply, and all lent memory afterwards, on every way out.
+use mathlib.Core.List.{List, [], _∷_, _++_}
+use mathlib.Core.Path.{_≡_}
+use Prim.Native.Nat.{ℕ, _+_, _-_, _*_, _≤_, _<_}
+use lib.ListN.{length, getD, take, drop}
+use Rattle.semantics.specs.Lists.{_∈_, digitsOf, zeros}
+use Rattle.semantics.specs.RuleSet.{RuleSet}
+use Rattle.semantics.specs.Heap.{Heap, wholeOf}
+use Rattle.semantics.specs.Reader.{accepted, refused}
+use Rattle.semantics.specs.Formats.{Input, ladder}
+use Rattle.semantics.specs.Tree.{Fits}
+use Rattle.semantics.specs.Domain.{domain}
+use Rattle.semantics.specs.Rounds.{After, Complete, Holds, MoreThan}
+use Rattle.semantics.specs.Certificate.{Certificate, Trimmed}
+use Rattle.semantics.specs.declared.Reply.{Reply}
+use Rattle.semantics.specs.declared.CheckReply.{CheckReply}
+
+-- ---- the definitions, for what was read
+
+abbrev pub domainOf : Input → List ℕ
+domainOf i = domain (i .ruleSet) (i .heap) (i .values)
+
+-- The facts of the least fixed point over the domain.
+abbrev pub HoldsInput : Input → ℕ → Type 0
+HoldsInput i = Holds (i .ruleSet) (i .heap) (domainOf i)
+
+-- Verdict fits: a finished unfolding by hand from the query uses each record exactly once.
+abbrev pub FitsInput : Input → Type 0
+FitsInput i = Fits (i .ruleSet) (i .heap) (i .predicate) (i .values)
+
+-- The conditions for lines; the last line is the query with every record.
+abbrev pub CertificateInput : Input → List ℕ → Type 0
+CertificateInput i words = Certificate (i .ruleSet) (i .heap) (domainOf i) (i .predicate) (i .values) (wholeOf (i .heap)) words
+
+abbrev pub TrimmedInput : Input → List ℕ → Type 0
+TrimmedInput i words = Trimmed (i .ruleSet) (i .heap) (domainOf i) (i .predicate) (i .values) (wholeOf (i .heap)) words
+
+-- ---- refusals 10 and 11
+
+-- A table of 1 to 65,535 lines, and three words of unfolding space for each: refusal 10 is given where this is not so.
+pub record Lent (lines words : ℕ) : Type 0 where
+  pub some : 1 ≤ lines
+  pub most : lines ≤ 65535
+  pub three : words ≡ 3 * lines
+
+-- Refusal 11: there are more facts than n.
+abbrev pub MoreFactsThan : Input → ℕ → Type 0
+MoreFactsThan i n = MoreThan n (HoldsInput i)
+
+-- ---- the table
+
+-- Memory of n places that starts with xs; places after the last are 0.
+abbrev pub padded : ℕ → List ℕ → List ℕ
+padded n xs = xs ++ zeros (n - length xs)
+
+-- All facts by round, then ascending, and the number of the last round with a fact.
+pub record Completed (ruleSet : RuleSet) (heap : Heap) (domain : List ℕ) (rounds : ℕ) (facts : List ℕ) : Type 0 where
+  pub after : After ruleSet heap domain rounds facts
+  pub complete : Complete ruleSet heap domain facts
+
+-- A table of n lines that holds them.
+pub record Filled (ruleSet : RuleSet) (heap : Heap) (domain : List ℕ) (n rounds : ℕ) (facts table : List ℕ) : Type 0 where
+  pub completed : Completed ruleSet heap domain rounds facts
+  pub room : length facts ≤ n
+  pub is-table : table ≡ padded n facts
+
+abbrev pub CompletedInput : Input → ℕ → List ℕ → Type 0
+CompletedInput i = Completed (i .ruleSet) (i .heap) (domainOf i)
+
+abbrev pub FilledInput : Input → ℕ → ℕ → List ℕ → List ℕ → Type 0
+FilledInput i = Filled (i .ruleSet) (i .heap) (domainOf i)
+
+-- ---- the engine
+
+-- On a refusal all but the first number are 0.
+abbrev pub refusalReply : ℕ → Reply
+refusalReply n = record { refusal = n; verdict = 0; facts = 0; rounds = 0; lines = 0 }
+
+-- The engine's answer to what was read, with n lines of table: the reply, the table and the unfolding space. On fits the certificate is
+-- the program's choice among those of the engine's kind; nothing else is.
+pub data Answers (i : Input) (n : ℕ) (reply : Reply) (table space : List ℕ) : Type 0 where
+  over : MoreFactsThan i n → reply ≡ refusalReply 11 → table ≡ zeros n → space ≡ zeros (3 * n) → Answers i n reply table space
+  fits : (rounds : ℕ) (facts words : List ℕ) → FilledInput i n rounds facts table → FitsInput i → (u : TrimmedInput i words)
+      → reply ≡ record { refusal = 0; verdict = 1; facts = length facts; rounds = rounds; lines = u .taken .count }
+      → space ≡ padded (3 * n) words → Answers i n reply table space
+  fits-not : (rounds : ℕ) (facts : List ℕ) → FilledInput i n rounds facts table → ¬ FitsInput i
+      → reply ≡ record { refusal = 0; verdict = 0; facts = length facts; rounds = rounds; lines = 0 }
+      → space ≡ zeros (3 * n) → Answers i n reply table space
+
+-- The contract of `decide`: from bytes and lent memory to the reply and that memory afterwards. Refusals 1 to 9 (unread) and 10 (unlent)
+-- leave it as found.
+pub data Decided (book snapshot question table space : List ℕ) (reply : Reply) (table′ space′ : List ℕ) : Type 0 where
+  unread : (n : ℕ) → ladder book snapshot question ≡ refused n → reply ≡ refusalReply n → table′ ≡ table → space′ ≡ space
+      → Decided book snapshot question table space reply table′ space′
+  unlent : (i : Input) → ladder book snapshot question ≡ accepted i → ¬ Lent (length table) (length space) → reply ≡ refusalReply 10
+      → table′ ≡ table → space′ ≡ space → Decided book snapshot question table space reply table′ space′
+  answered : (i : Input) → ladder book snapshot question ≡ accepted i → Lent (length table) (length space)
+      → Answers i (length table) reply table′ space′ → Decided book snapshot question table space reply table′ space′
+
+-- ---- the check
+
+-- The contract of `check`: a refusal of 1 to 9 and 0, or 0 and whether the words meet the conditions for lines. It is lent nothing to change.
+pub data Checked (book snapshot question words : List ℕ) (reply : CheckReply) : Type 0 where
+  unread : (n : ℕ) → ladder book snapshot question ≡ refused n → reply ≡ record { refusal = n; taken = 0 }
+      → Checked book snapshot question words reply
+  takes : (i : Input) → ladder book snapshot question ≡ accepted i → CertificateInput i words → reply ≡ record { refusal = 0; taken = 1 }
+      → Checked book snapshot question words reply
+  takes-not : (i : Input) → ladder book snapshot question ≡ accepted i → ¬ CertificateInput i words → reply ≡ record { refusal = 0; taken = 0 }
+      → Checked book snapshot question words reply
+
+-- ---- the desk's two entries
+
+-- Each entry gives one number: twice the refusal plus the second number of the reply.
+abbrev pub deskNumber : ℕ → ℕ → ℕ
+deskNumber refusal second = 2 * refusal + second
+
+-- The engine with 1,024 lines of the entry's own.
+pub record DeskDecided (book snapshot question : List ℕ) (number : ℕ) : Type 0 where
+  pub reply : Reply
+  pub table : List ℕ
+  pub space : List ℕ
+  pub decided : Decided book snapshot question (zeros 1024) (zeros 3072) reply table space
+  pub is-number : number ≡ deskNumber (reply .refusal) (reply .verdict)
+
+-- Words as bytes, eight to a word, lowest first.
+abbrev pub bytesOf : List ℕ → List ℕ
+bytesOf [] = []
+bytesOf (w ∷ words) = digitsOf 256 8 w ++ bytesOf words
+
+-- Bytes that this entry takes: the words of a certificate, and at most 24,576 bytes of them.
+pub record DeskTakes (i : Input) (bytes : List ℕ) : Type 0 where
+  pub words : List ℕ
+  pub small : (w : ℕ) → w ∈ words → w < 18446744073709551616
+  pub are-bytes : bytes ≡ bytesOf words
+  pub most : length bytes ≤ 24576
+  pub taken : CertificateInput i words
+
+-- The check as an entry. Refusals 1 to 9 come first; bytes that are too many or no whole words are not taken, which is no refusal.
+pub data DeskChecked (book snapshot question bytes : List ℕ) (number : ℕ) : Type 0 where
+  unread : (n : ℕ) → ladder book snapshot question ≡ refused n → number ≡ deskNumber n 0 → DeskChecked book snapshot question bytes number
+  takes : (i : Input) → ladder book snapshot question ≡ accepted i → DeskTakes i bytes → number ≡ deskNumber 0 1
+      → DeskChecked book snapshot question bytes number
+  takes-not : (i : Input) → ladder book snapshot question ≡ accepted i → ¬ DeskTakes i bytes → number ≡ deskNumber 0 0
+      → DeskChecked book snapshot question bytes number
+
+-- ---- the bench program's input
+
+-- Of at most 4,096 bytes, three parts, each after a two-byte length, low byte first. A missing byte of a length counts as 0; a length
+-- beyond the input takes what there is; later bytes are ignored. The program lends 1,024 lines.
+abbrev pub partLength : List ℕ → ℕ
+partLength bytes = getD bytes 0 0 + 256 * getD bytes 1 0
+
+abbrev pub firstPart : List ℕ → List ℕ
+firstPart bytes = take (partLength bytes) (drop 2 bytes)
+
+abbrev pub otherParts : List ℕ → List ℕ
+otherParts bytes = drop (partLength bytes) (drop 2 bytes)
+
+-- The house book H.
+abbrev pub house : List ℕ
+house =
+    3 ∷ 2 ∷ 1 ∷ 2 ∷ 4
+    ∷ 0 ∷ 0 ∷ 1 ∷ 0 ∷ 0 ∷ 1 ∷ 0 ∷ 0
+    ∷ 0 ∷ 1 ∷ 0 ∷ 1 ∷ 0 ∷ 1 ∷ 2 ∷ 1 ∷ 0 ∷ 2 ∷ 1
+    ∷ 1 ∷ 1 ∷ 0 ∷ 1 ∷ 0 ∷ 1 ∷ 1 ∷ 1 ∷ 0 ∷ 1 ∷ 0
+    ∷ 2 ∷ 0 ∷ 0 ∷ 0 ∷ 2 ∷ 0 ∷ 0 ∷ 255 ∷ 0 ∷ 1 ∷ 255 ∷ []
+
+-- An empty book part stands for the house book.
+abbrev pub bookOr : List ℕ → List ℕ
+bookOr [] = house
+bookOr (b ∷ bytes) = b ∷ bytes
+
+abbrev pub bookPart : List ℕ → List ℕ
+bookPart input = bookOr (firstPart input)
+
+abbrev pub snapshotPart : List ℕ → List ℕ
+snapshotPart input = firstPart (otherParts input)
+
+abbrev pub questionPart : List ℕ → List ℕ
+questionPart input = firstPart (otherParts (otherParts input))

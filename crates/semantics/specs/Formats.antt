@@ -1,0 +1,182 @@
+-- The formats and the ladder (paper 01: the book, the snapshot, the question; refusals 1 to 9): what the bytes say, or the number of
+-- the first fault met, front to back.
+use mathlib.Core.Bool.{Bool, true, false}
+use mathlib.Core.List.{List, [], _∷_}
+use mathlib.Core.Path.{_≡_}
+use Prim.Native.Nat.{ℕ, zero, suc, _+_, _≤_, _<_}
+use lib.ListN.{length, getD}
+use lib.Dec.{eqb, leb, ltb}
+use Rattle.semantics.specs.RuleSet.{Term, var, fixed, Kind, equal, unequal, Pure, PointsTo, Call, Rule, RuleSet, arity, WellFormed}
+use Rattle.semantics.specs.Heap.{Heap, WellFormedHeap}
+use Rattle.semantics.specs.Reader.{fault, Reader, _>>=_, give, ensure, byte, times, counted, word, Result, accepted, andThen, all}
+
+-- ---- values
+
+-- How the four bytes of a field or of a query's value are read as a value: as they are.
+abbrev pub asRead : ℕ → ℕ
+asRead v = v
+
+abbrev pub value : ℕ → Reader ℕ
+value short = do
+  v ← word short
+  give (asRead v)
+
+-- ---- the rule set: 1 where it ends too soon, 2 for a count beyond its range, 3 for a byte that names nothing, 4 for bytes after it
+
+-- A byte below n: one of n predicates, or one of n variables.
+abbrev pub named : ℕ → Reader ℕ
+named n = do
+  b ← byte 1
+  ensure (ltb b n) 3 b
+
+-- What the byte b names as a term of a rule with n variables: nil (255), or a variable.
+abbrev pub termOf : ℕ → ℕ → Reader Term
+termOf n b = elim (eqb b 255) [ true ↦ give (fixed 0) | false ↦ ensure (ltb b n) 3 (var b) ]
+
+abbrev pub term : ℕ → Reader Term
+term n = do
+  b ← byte 1
+  termOf n b
+
+abbrev pub kindOf : ℕ → Reader Kind
+kindOf zero = give equal
+kindOf (suc zero) = give unequal
+kindOf (suc (suc b)) = λ bytes. fault 3
+
+abbrev pub kind : Reader Kind
+kind = do
+  b ← byte 1
+  kindOf b
+
+abbrev pub pure : ℕ → Reader Pure
+pure n = do
+  k ← kind
+  l ← term n
+  r ← term n
+  give (record { kind = k; left = l; right = r })
+
+-- The address must be a variable; 255, which is nil, is refusal 3.
+abbrev pub atom : ℕ → Reader PointsTo
+atom n = do
+  a ← named n
+  ts ← counted 1 2 4 (term n)
+  give (record { address = a; fields = ts })
+
+abbrev pub call : List ℕ → ℕ → Reader Call
+call arities n = do
+  p ← named (length arities)
+  ts ← times (getD arities p 0) (term n)
+  give (record { predicate = p; arguments = ts })
+
+abbrev pub body : List ℕ → ℕ → ℕ → ℕ → Reader Rule
+body arities h b n = do
+  ps ← counted 1 2 8 (pure n)
+  cs ← counted 1 2 4 (atom n)
+  ds ← counted 1 2 3 (call arities n)
+  give (record { head = h; bound = b; pures = ps; points-to = cs; calls = ds })
+
+-- Head and bound variables are at most 8 together.
+abbrev pub rule : List ℕ → Reader Rule
+rule arities = do
+  h ← named (length arities)
+  b ← byte 1
+  n ← ensure (leb (getD arities h 0 + b) 8) 2 (getD arities h 0 + b)
+  body arities h b n
+
+-- A predicate's number of arguments.
+abbrev pub arguments : Reader ℕ
+arguments = do
+  b ← byte 1
+  ensure (leb b 4) 2 b
+
+-- There are 1 to 8 predicates.
+abbrev pub predicates : Reader (List ℕ)
+predicates = do
+  b ← byte 1
+  l ← ensure (leb 1 b) 2 b
+  n ← ensure (leb l 8) 2 l
+  times n arguments
+
+abbrev pub ruleSet : Reader RuleSet
+ruleSet = do
+  arities ← predicates
+  rules ← counted 1 2 16 (rule arities)
+  give (record { arities = arities; rules = rules })
+
+unfoldable pub readRuleSet : List ℕ → Result RuleSet
+readRuleSet bytes = all 4 (ruleSet bytes)
+
+-- ---- the snapshot: 5 where it ends too soon, 6 for a count above its range, 7 for an address, 8 for bytes after it
+
+-- An address is above the one before; before the first stands 0, so none is nil.
+abbrev pub isAddress : ℕ → ℕ → Bool
+isAddress low a = ltb low a
+
+abbrev pub address : ℕ → Reader ℕ
+address low = do
+  a ← word 5
+  ensure (isAddress low a) 7 a
+
+unfoldable pub records : ℕ → ℕ → Reader Heap
+records zero low = give []
+records (suc n) low = do
+  a ← address low
+  fs ← counted 5 6 4 (value 5)
+  more ← records n a
+  give (record { address = a; fields = fs } ∷ more)
+
+abbrev pub snapshot : Reader Heap
+snapshot = do
+  b ← byte 5
+  n ← ensure (leb b 16) 6 b
+  records n 0
+
+unfoldable pub readSnapshot : List ℕ → Result Heap
+readSnapshot bytes = all 8 (snapshot bytes)
+
+-- ---- the query (paper 01: the question): 9 for every fault
+
+pub record Query : Type 0 where
+  pub predicate : ℕ
+  pub values : List ℕ
+
+abbrev pub query : List ℕ → Reader Query
+query arities = do
+  b ← byte 9
+  p ← ensure (ltb b (length arities)) 9 b
+  c ← byte 9
+  n ← ensure (eqb c (getD arities p 0)) 9 c
+  vs ← times n (value 9)
+  give (record { predicate = p; values = vs })
+
+unfoldable pub readQuery : List ℕ → List ℕ → Result Query
+readQuery arities bytes = all 9 (query arities bytes)
+
+-- ---- refusals 1 to 9
+
+-- What was read, where none of refusals 1 to 9 is earned.
+pub record Input : Type 0 where
+  pub ruleSet : RuleSet
+  pub heap : Heap
+  pub predicate : ℕ
+  pub values : List ℕ
+
+-- The ladder: first the book, then the snapshot, then the question.
+unfoldable pub ladder : List ℕ → List ℕ → List ℕ → Result Input
+ladder book snapshot question =
+    andThen (readRuleSet book) (λ r.
+    andThen (readSnapshot snapshot) (λ h.
+    andThen (readQuery (r .arities) question) (λ q.
+    accepted (record { ruleSet = r; heap = h; predicate = q .predicate; values = q .values }))))
+
+-- A rule set, a heap and values asked about, each as the readers guarantee it. The theorems rest on this.
+pub record Valid (ruleSet : RuleSet) (heap : Heap) (values : List ℕ) : Type 0 where
+  pub rules-formed : WellFormed ruleSet
+  pub heap-formed : WellFormedHeap heap
+  pub values-few : length values ≤ 4
+
+-- What the ladder guarantees of what it accepts.
+pub record WellFormedInput (i : Input) : Type 0 where
+  pub valid : Valid (i .ruleSet) (i .heap) (i .values)
+  pub named : i .predicate < length (i .ruleSet .arities)
+  pub counted : length (i .values) ≡ arity (i .ruleSet) (i .predicate)

@@ -1,0 +1,13 @@
+pub mod Lists
+pub mod RuleSet
+pub mod Heap
+pub mod Reader
+pub mod Formats
+pub mod Tree
+pub mod Meaning
+pub mod Domain
+pub mod Fact
+pub mod Rounds
+pub mod Certificate
+pub mod Contract
+pub mod Rows

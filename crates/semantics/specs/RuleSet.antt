@@ -1,0 +1,92 @@
+-- Rule sets (paper 01: the book; source 000, definitions 2.1 and 2.2): what a rule may say, and when a rule set is well formed.
+use mathlib.Core.List.{List, [], _∷_}
+use mathlib.Core.Path.{_≡_}
+use Prim.Native.Nat.{ℕ, _+_, _≤_, _<_}
+use lib.ListN.{length, getD}
+use Rattle.semantics.specs.Lists.{_∈_}
+
+-- A term of a rule: one of its variables, by number, or a fixed value. Nil is `fixed 0`.
+pub data Term : Type 0 where
+  var : ℕ → Term
+  fixed : ℕ → Term
+
+pub data Kind : Type 0 where
+  equal : Kind
+  unequal : Kind
+
+-- A pure condition: the two terms' values are equal, or are not.
+pub record Pure : Type 0 where
+  pub kind : Kind
+  pub left : Term
+  pub right : Term
+
+-- A points-to atom (paper 01: a cell): exactly one record. `address` is a variable's number.
+pub record PointsTo : Type 0 where
+  pub address : ℕ
+  pub fields : List Term
+
+-- A call of a predicate, with a term for each of its arguments.
+pub record Call : Type 0 where
+  pub predicate : ℕ
+  pub arguments : List Term
+
+-- A rule for the predicate `head`. Its variables are the head's arguments first, and then `bound` more.
+pub record Rule : Type 0 where
+  pub head : ℕ
+  pub bound : ℕ
+  pub pures : List Pure
+  pub points-to : List PointsTo
+  pub calls : List Call
+
+-- A rule set: each predicate's number of arguments, and the rules.
+pub record RuleSet : Type 0 where
+  pub arities : List ℕ
+  pub rules : List Rule
+
+abbrev pub arity : RuleSet → ℕ → ℕ
+arity ruleSet predicate = getD (ruleSet .arities) predicate 0
+
+abbrev pub variables : RuleSet → Rule → ℕ
+variables ruleSet rule = arity ruleSet (rule .head) + rule .bound
+
+-- What stands for a rule past the end of the rule set.
+abbrev pub blankRule : Rule
+blankRule = record { head = 0; bound = 0; pures = []; points-to = []; calls = [] }
+
+abbrev pub ruleOf : RuleSet → ℕ → Rule
+ruleOf ruleSet number = getD (ruleSet .rules) number blankRule
+
+-- The values that a fixed term may have: nil alone.
+abbrev pub fixedValues : RuleSet → List ℕ
+fixedValues ruleSet = 0 ∷ []
+
+-- A term of a rule with n variables: a variable below n, or one of the fixed values.
+abbrev pub InScope : List ℕ → ℕ → Term → Type 0
+InScope values n (var i) = i < n
+InScope values n (fixed v) = v ∈ values
+
+-- What the reader of rule sets guarantees of a rule: its names exist, and every count is in its range.
+pub record WellFormedRule (ruleSet : RuleSet) (rule : Rule) : Type 0 where
+  pub head-named : rule .head < length (ruleSet .arities)
+  pub variables-few : variables ruleSet rule ≤ 8
+  pub pures-few : length (rule .pures) ≤ 8
+  pub pures-left : (pure : Pure) → pure ∈ rule .pures → InScope (fixedValues ruleSet) (variables ruleSet rule) (pure .left)
+  pub pures-right : (pure : Pure) → pure ∈ rule .pures → InScope (fixedValues ruleSet) (variables ruleSet rule) (pure .right)
+  pub atoms-few : length (rule .points-to) ≤ 4
+  pub atoms-address : (atom : PointsTo) → atom ∈ rule .points-to → atom .address < variables ruleSet rule
+  pub fields-few : (atom : PointsTo) → atom ∈ rule .points-to → length (atom .fields) ≤ 4
+  pub atoms-fields : (atom : PointsTo) → atom ∈ rule .points-to → (term : Term) → term ∈ atom .fields
+      → InScope (fixedValues ruleSet) (variables ruleSet rule) term
+  pub calls-few : length (rule .calls) ≤ 3
+  pub calls-named : (call : Call) → call ∈ rule .calls → call .predicate < length (ruleSet .arities)
+  pub calls-counted : (call : Call) → call ∈ rule .calls → length (call .arguments) ≡ arity ruleSet (call .predicate)
+  pub calls-scoped : (call : Call) → call ∈ rule .calls → (term : Term) → term ∈ call .arguments
+      → InScope (fixedValues ruleSet) (variables ruleSet rule) term
+
+-- And of the whole rule set.
+pub record WellFormed (ruleSet : RuleSet) : Type 0 where
+  pub predicates-some : 1 ≤ length (ruleSet .arities)
+  pub predicates-few : length (ruleSet .arities) ≤ 8
+  pub arguments-few : (predicate : ℕ) → arity ruleSet predicate ≤ 4
+  pub rules-few : length (ruleSet .rules) ≤ 16
+  pub each : (rule : Rule) → rule ∈ ruleSet .rules → WellFormedRule ruleSet rule

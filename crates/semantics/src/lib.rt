@@ -1,0 +1,16 @@
+// The types of the public answers. The definitions stand in specs/, and their theorems in proofs/.
+
+// The engine's reply. Verdict 1 is fits, 0 does not fit; lines is the certificate's number of lines.
+pub struct Reply {
+    pub refusal: u64,
+    pub verdict: u64,
+    pub facts: u64,
+    pub rounds: u64,
+    pub lines: u64,
+}
+
+// The reply of the certificate check: taken is 1 or 0.
+pub struct CheckReply {
+    pub refusal: u64,
+    pub taken: u64,
+}
