@@ -1,0 +1,72 @@
+-- Shared bits by halves, and by the conjunction of the two words: two subheaps share a record exactly if their conjunction is not 0.
+use Prim.Native.Nat.{ℕ, zero, suc, _/_, _%_, _^_, _≤_}
+use mathlib.Core.Bool.{Bool, true, false}
+use mathlib.Core.Path.{_≡_, sym, ap, _∙_}
+use native.Mathlib.Omega.{arith}
+use native.Mathlib.Decide.{ℕ-discrete}
+use native.Mathlib.Nat.{pow-succ', div-div-eq-div-mul, div-one, zero-div}
+use lib.Bits.{bitAnd, and-step, and-zero-l}
+use Rattle.words.specs.Subheap.{Told, Shares}
+
+-- bit i of n
+bit : ℕ → ℕ → ℕ
+bit n i = n / 2 ^ i % 2
+
+half-bit : (n i : ℕ) → bit (n / 2) i ≡ bit n (suc i)
+unfolding bit
+half-bit n i = ap (λ (m : ℕ). m % 2) (div-div-eq-div-mul n 2 (2 ^ i) ∙ ap (λ (m : ℕ). n / m) (sym (pow-succ' 2 i)))
+
+first-bit : (n : ℕ) → bit n 0 ≡ n % 2
+unfolding bit
+first-bit n = ap (λ (m : ℕ). m % 2) (div-one n)
+
+-- ---- by halves
+
+pub odd-share : (a b : ℕ) → a % 2 ≡ 1 → b % 2 ≡ 1 → Shares a b
+unfolding bit
+odd-share a b p q = record { place = 0; left = first-bit a ∙ p; right = first-bit b ∙ q }
+
+pub halves-share : (a b : ℕ) → Shares (a / 2) (b / 2) → Shares a b
+unfolding bit
+halves-share a b s = record { place = suc (s .place); left = sym (half-bit a (s .place)) ∙ s .left; right = sym (half-bit b (s .place)) ∙ s .right }
+
+pub share-halves : (a b : ℕ) → (a % 2 ≡ 1 → b % 2 ≡ 1 → ⊥) → Shares a b → Shares (a / 2) (b / 2)
+unfolding bit
+share-halves a b even s = go (s .place) (s .left) (s .right)
+  where
+    go : (i : ℕ) → bit a i ≡ 1 → bit b i ≡ 1 → Shares (a / 2) (b / 2)
+    go zero p q = absurd (even (sym (first-bit a) ∙ p) (sym (first-bit b) ∙ q))
+    go (suc i) p q = record { place = i; left = half-bit a i ∙ p; right = half-bit b i ∙ q }
+
+pub empty-shares-none : (b : ℕ) → ¬ Shares 0 b
+empty-shares-none b s = omega (arith, s .left, zero-div (2 ^ s .place))
+
+-- ---- by the conjunction
+
+apart-fuel : (fuel a b : ℕ) → a ≤ fuel → ¬ Shares a b → bitAnd a b ≡ 0
+apart-fuel zero a b h n = let e : a ≡ 0 = omega arith in rw e (and-zero-l b)
+apart-fuel (suc fuel) a b h n = step (ℕ-discrete (a % 2) 1) (apart-fuel fuel (a / 2) (b / 2) (omega arith) (λ s. n (halves-share a b s)))
+  where
+    step : Dec (a % 2 ≡ 1) → bitAnd (a / 2) (b / 2) ≡ 0 → bitAnd a b ≡ 0
+    step (yes p) z = let even : b % 2 ≡ 1 → ⊥ = λ q. n (odd-share a b p q) in omega (arith, and-step a b)
+    step (no p) z = omega (arith, and-step a b)
+
+pub apart-and : (a b : ℕ) → ¬ Shares a b → bitAnd a b ≡ 0
+apart-and a b n = apart-fuel a a b (omega arith) n
+
+and-fuel : (fuel a b : ℕ) → a ≤ fuel → bitAnd a b ≡ 0 → ¬ Shares a b
+and-fuel zero a b h e s = let z : a ≡ 0 = omega arith in empty-shares-none b (rw z at s)
+and-fuel (suc fuel) a b h e s =
+    and-fuel fuel (a / 2) (b / 2) (omega arith) (omega (arith, and-step a b))
+    (share-halves a b (λ p q. omega (arith, and-step a b)) s)
+
+pub and-apart : (a b : ℕ) → bitAnd a b ≡ 0 → ¬ Shares a b
+and-apart a b e s = and-fuel a a b (omega arith) e s
+
+-- ---- what the test's answer says of the conjunction
+
+pub told-apart : {r : Bool} {a b : ℕ} → Told r (Shares a b) → r ≡ false → bitAnd a b ≡ 0
+told-apart {r} {a} {b} t e = apart-and a b (t .not-so e)
+
+pub told-shared : {r : Bool} {a b : ℕ} → Told r (Shares a b) → r ≡ true → ¬ (bitAnd a b ≡ 0)
+told-shared {r} {a} {b} t e z = and-apart a b z (t .so e)

@@ -1,0 +1,15 @@
+-- Subheaps as words: when two of them share a record.
+use mathlib.Core.Bool.{Bool, true, false}
+use mathlib.Core.Path.{_≡_}
+use Prim.Native.Nat.{ℕ, _/_, _%_, _^_}
+
+-- A test's answer: true exactly if the fact holds.
+pub record Told (r : Bool) (P : Type 0) : Type 0 where
+  pub so : r ≡ true → P
+  pub not-so : r ≡ false → ¬ P
+
+-- Some bit is one in both: a record of both subheaps.
+pub record Shares (a b : ℕ) : Type 0 where
+  pub place : ℕ
+  pub left : a / 2 ^ place % 2 ≡ 1
+  pub right : b / 2 ^ place % 2 ≡ 1
