@@ -1,0 +1,113 @@
+-- Records: address, count and fields make a record, and records one after the other, each above the one before, make the heap.
+use mathlib.Core.Path.{_≡_, refl, sym, ap, _∙_}
+use mathlib.Core.Logic.{inl, inr}
+use mathlib.Core.List.{List, [], _∷_, _++_}
+use Prim.Native.Nat.{ℕ, zero, suc, _+_, _*_, _≤_, _<_}
+use native.Mathlib.Numerals.{add-one}
+use native.Mathlib.Omega.{arith}
+use lib.ListN.{length, getD}
+use Rattle.semantics.specs.Heap.{Record, Heap}
+use Rattle.semantics.specs.Reader.{Got, got, fault, Reader, onward, _>>=_, give, counted}
+use Rattle.semantics.specs.Formats.{value, address, records, snapshot}
+use Rattle.words.specs.Block.{tabulate, entries, recordIn, heapIn}
+use Rattle.words.proofs.Tabulate.{tabulate-more}
+use Rattle.formats.specs.Cursor.{Yields}
+use Rattle.formats.specs.HeapLayout.{valueLayout, addressLayout, sizeLayout, record-above, recordLayout, recordsLayout}
+use Rattle.formats.specs.Layout.{Fills, many, Any}
+use Rattle.formats.specs.declared.Cursor.{Cursor}
+use Rattle.formats.proofs.Chain.{chain, done, alike}
+use Rattle.formats.proofs.Counting.{threaded, left, left-snoc, threaded-none, threaded-more, ranged-then, counted-read}
+use Rattle.formats.proofs.Keep.{kept-none, kept-both}
+use Rattle.formats.proofs.Locals.{ones, entries-same}
+use Rattle.formats.proofs.Section.{Local, single-local, row-more}
+
+pub value-local : (short : ℕ) → Local (valueLayout short)
+value-local short = single-local (value short) (λ v. v) Any
+
+pub record-local : (low : ℕ) → Local (recordLayout low)
+record-local low = record {
+  same = λ b b′ at below here s.
+      let e = here (at + 1) (omega arith) (omega arith) in
+      let fields = entries-same b b′ (at + 2) (getD b (at + 1) 0) (λ i l₁ l₂. here i (omega arith) (omega arith)) in
+      (rw (here at (omega arith) (omega arith), e, fields), rw (← e) at s);
+}
+
+pub record-fills : (low at : ℕ) {bytes : List ℕ} {c c₁ c₂ c₃ : Cursor} {b b₁ b₂ b₃ : List ℕ} → Fills (addressLayout low) at bytes c b b₁ c₁
+    → Fills (sizeLayout 4) (at + 1) bytes c₁ b₁ b₂ c₂ → Fills (many (getD b₂ (at + 1) 0) (valueLayout 5)) (at + 2) bytes c₂ b₂ b₃ c₃
+    → Fills (recordLayout low) at bytes c b b₃ c₃
+record-fills low at {bytes} {c₃ = c₃} {b} {b₁} {b₂} {b₃} above count fields =
+    let a : getD b₃ at 0 ≡ getD b₁ at 0 = fields .kept .same at (inl (omega arith)) ∙ count .kept .same at (inl (omega arith)) in
+    let m : getD b₃ (at + 1) 0 ≡ getD b₂ (at + 1) 0 = fields .kept .same (at + 1) (inl (omega arith)) in
+    record {
+      reads =
+          rw (a, m, ← ones b₃ (at + 2) (getD b₂ (at + 1) 0))
+          (chain _ (above .reads) (chain _ (counted-read 5 6 4 (value 5) (count .reads) (fields .reads)) (done bytes c₃ _)));
+      sized = rw m (count .sized .high);
+      kept =
+          kept-both at (at + 6) (kept-both at (at + 6) (above .kept) (count .kept) (omega arith) (omega arith) (omega arith) (omega arith)) (fields .kept)
+          (omega arith) (omega arith) (omega arith) (omega (arith, count .sized .high));
+    }
+
+-- the definition's records, each reader after the address that the record before left behind
+abbrev addressOf : Record → ℕ
+addressOf here = here .address
+
+records-threaded : (n low : ℕ) (bytes : List ℕ) → records n low bytes ≡ threaded n low record-above addressOf bytes
+unfolding records threaded
+records-threaded zero low bytes = refl
+records-threaded (suc n) low bytes = first (records-threaded n) (address low bytes)
+  where
+    Same : Type 0
+    Same = (low : ℕ) (rest : List ℕ) → records n low rest ≡ threaded n low record-above addressOf rest
+
+    then : Same → (a : ℕ) (r : Got (List ℕ)) → onward r (λ fs. _>>=_ (records n a) (λ more. give (record { address = a; fields = fs } ∷ more)))
+        ≡ onward (onward r (λ fs. give (record { address = a; fields = fs }))) (λ r. _>>=_ (threaded n (addressOf r) record-above addressOf) (λ rest. give (r ∷ rest)))
+    then h a (got fs rest) = ap (λ (g : Got Heap). onward g (λ more. give (record { address = a; fields = fs } ∷ more))) (h a rest)
+    then h a (fault m) = refl
+
+    first : Same → (r : Got ℕ) → onward r (λ a. _>>=_ (counted 5 6 4 (value 5)) (λ fs. _>>=_ (records n a) (λ more. give (record { address = a; fields = fs } ∷ more))))
+        ≡ onward (onward r (λ a. _>>=_ (counted 5 6 4 (value 5)) (λ fs. give (record { address = a; fields = fs })))) (λ r. _>>=_ (threaded n (addressOf r) record-above addressOf) (λ rest. give (r ∷ rest)))
+    first h (got a rest) = then h a (counted 5 6 4 (value 5) rest)
+    first h (fault m) = refl
+
+-- the records that a block has from place 1 on, and the address that the last of them leaves behind
+abbrev pub recordsIn : List ℕ → ℕ → Heap
+recordsIn b k = tabulate k (λ (i : ℕ). recordIn b (1 + 6 * i))
+
+abbrev pub lastAddress : List ℕ → ℕ → ℕ
+lastAddress b k = left 0 addressOf (recordsIn b k)
+
+pub last-none : (b : List ℕ) → 0 ≡ lastAddress b 0
+unfolding tabulate left
+last-none b = refl
+
+pub last-more : (b : List ℕ) (k : ℕ) → getD b (1 + 6 * k) 0 ≡ lastAddress b (k + 1)
+last-more b k =
+    sym (ap (λ (h : Heap). left 0 addressOf h) (rw (add-one k) (tabulate-more k (λ (i : ℕ). recordIn b (1 + 6 * i))))
+    ∙ left-snoc 0 addressOf (recordsIn b k) (recordIn b (1 + 6 * k)))
+
+pub records-none : (bytes : List ℕ) (c : Cursor) (b : List ℕ) → Fills (recordsLayout 0) 1 bytes c b b c
+unfolding tabulate
+records-none bytes c b = record {
+  reads = alike _ (records-threaded 0 0) (threaded-none record-above addressOf bytes c 0);
+  sized = λ k l. absurd (omega arith);
+  kept = kept-none _ _ b;
+}
+
+pub records-more : {bytes : List ℕ} {c₀ c c′ : Cursor} {b₀ b b′ : List ℕ} (low k : ℕ) → low ≡ lastAddress b k → Fills (recordsLayout k) 1 bytes c₀ b₀ b c
+    → Fills (recordLayout low) (1 + 6 * k) bytes c b b′ c′ → Fills (recordsLayout (k + 1)) 1 bytes c₀ b₀ b′ c′
+records-more {bytes} {c₀} {c} {c′} {b₀} {b} {b′} low k e h here =
+    row-more (recordLayout 0) (record-local 0) (records (k + 1) 0) 1 k (omega arith) h (here .sized) (here .kept)
+    (rw (add-one k)
+    (alike _ (records-threaded (suc k) 0)
+    (threaded-more record-above addressOf k 0 (recordsIn b k) (recordIn b′ (1 + 6 * k)) (alike _ (λ bs. sym (records-threaded k 0 bs)) (h .reads)) (rw (← e) (here .reads)))))
+
+pub records-whole : {bytes : List ℕ} {c c′ : Cursor} {b b′ : List ℕ} {k : ℕ} (count : ℕ) → k ≤ count → count ≤ k
+    → Fills (recordsLayout k) 1 bytes c b b′ c′ → Fills (recordsLayout count) 1 bytes c b b′ c′
+records-whole {k = k} count l₁ l₂ h = let e : k ≡ count = omega arith in rw e at h
+
+-- the count and the records make the heap
+pub heap-fills : {bytes : List ℕ} {c c₁ c₂ : Cursor} {b b₁ b₂ : List ℕ} → Fills (sizeLayout 16) 0 bytes c b b₁ c₁
+    → Fills (recordsLayout (getD b₁ 0 0)) 1 bytes c₁ b₁ b₂ c₂ → Yields snapshot bytes c c₂ (heapIn b₂)
+unfolding heapIn
+heap-fills count rest = rw (rest .kept .same 0 (inl (omega arith))) (ranged-then 5 6 16 (λ n. records n 0) (count .reads) (rest .reads))

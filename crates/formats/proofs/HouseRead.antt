@@ -1,0 +1,10 @@
+-- The house book is read into the three shapes.
+use mathlib.Core.Path.{_≡_, refl}
+use Rattle.semantics.specs.Reader.{accepted, times, counted}
+use Rattle.semantics.specs.Formats.{readRuleSet}
+use Rattle.semantics.specs.Contract.{house}
+use Rattle.formats.specs.House.{shapes}
+
+pub house-read : readRuleSet house ≡ accepted shapes
+unfolding readRuleSet times counted
+house-read = refl

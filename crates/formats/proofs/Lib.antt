@@ -1,0 +1,17 @@
+pub mod Answers
+pub mod Left
+pub mod Chain
+pub mod Heading
+pub mod HeapParts
+pub mod HouseRead
+pub mod Conditions
+pub mod Counting
+pub mod Finishing
+pub mod Keep
+pub mod Locals
+pub mod Naming
+pub mod QueryParts
+pub mod RuleParts
+pub mod Section
+pub mod Whole
+pub mod Words

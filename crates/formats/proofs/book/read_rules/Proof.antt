@@ -1,0 +1,24 @@
+-- The rule set is read from the start, and then nothing may be left.
+use Rattle.semantics.specs.Formats.{ruleSet, readRuleSet}
+use Rattle.formats.proofs.Finishing.{finish-is}
+use borrow.Author.Needs.{needs}
+use Rattle.formats.proofs.book.read_rules.Statement.{statement}
+use Rattle.formats.proofs.book.read_rules.Tie as tie
+
+rule-set-requires : tie.Need-rule-set-requires
+rule-set-requires c κs = search needs
+
+finish-requires : tie.Need-finish-requires
+finish-requires c κs = search needs
+
+returns : tie.Need-returns
+unfolding readRuleSet
+returns c =
+    let e = c .before .before .before .rule-set .ensures in
+    record { is = rw (c .finish .ensures) (finish-is 4 ruleSet (e .reads)); header = e .header; long = e .long }
+
+same-length : tie.Need-same-length
+same-length c = returns c .long
+
+pub read-rules-spec : {M : Type 1} → statement M
+read-rules-spec = tie.close (tie.spec rule-set-requires finish-requires same-length returns)

@@ -1,0 +1,74 @@
+-- The name, the count and the values make the query, and then nothing may be left.
+use native.Mathlib.Omega.{arith}
+use mathlib.Core.Path.{_∙_}
+use lib.ListN.{length-set}
+use Rattle.semantics.specs.Formats.{query, readQuery}
+use Rattle.formats.specs.Layout.{aritiesIn}
+use Rattle.formats.proofs.Finishing.{finish-is}
+use Rattle.formats.proofs.QueryParts.{query-fills, first-stored, second-stored, stored-long}
+use borrow.Author.Needs.{needs}
+use Rattle.formats.proofs.question.read_query.Statement.{statement}
+use Rattle.formats.proofs.question.read_query.Tie as tie
+
+element-copy-out-predicates : tie.Need-element-copy-out-predicates
+element-copy-out-predicates c = omega arith
+
+below-requires : tie.Need-below-requires
+below-requires c κs = search needs
+
+cast-predicate : tie.Need-cast-predicate
+cast-predicate c = search needs
+
+add-arity : tie.Need-add-arity
+add-arity c = let p = c .before .before .before .before .before .pre .0 in omega (arith, c .before .below .ensures .small (p .some), p .few)
+
+element-copy-out-arity : tie.Need-element-copy-out-arity
+element-copy-out-arity c = let p = c .before .before .before .before .before .pre .0 in omega (arith, c .before .below .ensures .small (p .some), p .few)
+
+ranged-requires : tie.Need-ranged-requires
+ranged-requires c κs = omega arith
+
+wide-requires : tie.Need-wide-requires
+wide-requires c κs = search needs
+
+wide-requires-2 : tie.Need-wide-requires-2
+wide-requires-2 c κs = search needs
+
+slice-write-query : tie.Need-slice-write-query
+slice-write-query c = omega (arith, c .before .before .before .before .before .before .before .before .before .pre .1)
+
+slice-write-query-2 : tie.Need-slice-write-query-2
+slice-write-query-2 c = simp length-set (omega (arith, c .before .before .before .before .before .before .before .before .before .pre .1))
+
+values-requires : tie.Need-values-requires
+values-requires c κs =
+    let p = c .before .before .before .before .before .before .before .before .before .before .pre .0 in
+    let name = c .before .before .before .before .before .before .below in
+    simp length-set
+    (omega (arith, c .before .before .before .before .before .before .before .before .before .before .pre .1, c .before .before .wide .ensures .0, c .before .before .before .ranged .ensures .within .high, p .each (name .result .value) (name .ensures .small (p .some))))
+
+finish-requires : tie.Need-finish-requires
+finish-requires c κs = search needs
+
+returns : tie.Need-returns
+unfolding readQuery
+returns c =
+    let q = c .before .before .before .before .before .before .before .before .before .before .before .before .before .before .args .query .now in
+    let p = c .before .before .before .before .before .before .before .before .before .before .before .before .before .before .pre in
+    let x = c .before .before .before .before .before .wide2 in
+    let k = c .before .before .before .before .before .before .wide in
+    let values = c .before .before .before .values .ensures in
+    record {
+      is =
+          rw (c .finish .ensures)
+          (finish-is 9 (query (aritiesIn (c .before .before .before .before .before .before .before .before .before .before .before .before .before .before .args .rules .now)))
+          (query-fills (p .0) (c .before .before .before .before .before .before .before .before .before .before .below .ensures) (c .before .before .before .before .before .before .before .ranged .ensures) (x .ensures .0) (k .ensures .0) (first-stored q (x .result) (k .result) (p .1))
+          (second-stored q (x .result) (k .result) (p .1)) values));
+      long = values .kept .long ∙ stored-long q (x .result) (k .result);
+    }
+
+same-length : tie.Need-same-length
+same-length c = returns c .long
+
+pub read-query-spec : {M : Type 1} → statement M
+read-query-spec = tie.close (tie.spec element-copy-out-predicates below-requires cast-predicate add-arity element-copy-out-arity ranged-requires wide-requires wide-requires-2 slice-write-query slice-write-query-2 values-requires finish-requires same-length returns)

@@ -1,0 +1,44 @@
+-- The first of the three that refuses gives the refusal; where none does, the blocks hold what the ladder accepts.
+use native.Mathlib.Omega.{arith}
+use mathlib.Core.Path.{refl}
+use Rattle.formats.specs.Refusal.Read.{refuses}
+use Rattle.formats.proofs.Finishing.{book-refused, snapshot-refused, all-read}
+use mathlib.Core.Path.{_≡_, _∙_}
+use borrow.Author.Needs.{needs}
+use Rattle.formats.proofs.read.Statement.{statement}
+use Rattle.formats.proofs.read.Tie as tie
+
+read-rules-requires : tie.Need-read-rules-requires
+read-rules-requires c κs = search needs
+
+enum-known-n : tie.Need-enum-known-n
+enum-known-n c = search needs
+
+enum-told : tie.Need-enum-told
+enum-told c = search needs
+
+read-heap-requires : tie.Need-read-heap-requires
+read-heap-requires c κs = search needs
+
+enum-known-n-2 : tie.Need-enum-known-n-2
+enum-known-n-2 c = search needs
+
+enum-told-2 : tie.Need-enum-told-2
+enum-told-2 c = search needs
+
+read-query-requires : tie.Need-read-query-requires
+read-query-requires c κs = (c .before .before .before .before .before .before .before .before .read-rules .ensures .header, search needs)
+
+returns : tie.Need-returns
+returns c = book-refused _ _ _ _ _ _ _ (rw (c .before .n .given .1) at (c .before .before .before .read-rules .ensures .is))
+
+returns-2 : tie.Need-returns-2
+returns-2 c = snapshot-refused _ _ _ _ _ _ _ (rw (c .before .before .before .before .before .enum-told .given .1) at (c .before .before .before .before .before .before .before .read-rules .ensures .is)) (rw (c .before .n2 .given .1) at (c .before .before .before .read-heap .ensures .is))
+
+returns-3 : tie.Need-returns-3
+returns-3 c =
+    all-read _ _ _ _ _ _ _ (rw (c .before .before .before .before .before .before .before .enum-told .given .1) at (c .before .before .before .before .before .before .before .before .before .read-rules .ensures .is)) (rw (c .before .before .before .enum-told2 .given .1) at (c .before .before .before .before .before .read-heap .ensures .is))
+    (c .read-query .ensures .is) (c .before .before .before .before .before .before .before .before .before .read-rules .ensures .long ∙ search needs)
+
+pub read-spec : {M : Type 1} → statement M
+read-spec = tie.close (tie.spec read-rules-requires enum-known-n enum-told read-heap-requires enum-known-n-2 enum-told-2 read-query-requires returns returns-2 returns-3)

@@ -1,0 +1,5 @@
+pub mod Cursor
+pub mod HeapLayout
+pub mod House
+pub mod Layout
+pub mod Refusal

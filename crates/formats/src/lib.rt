@@ -1,0 +1,114 @@
+// The readers: from the bytes of book, snapshot and question to the decoded blocks, or to the number of the first fault met. Each reader
+// takes a cursor and gives the next one. A cursor keeps the first fault, so that readers stand one after the other as the formats say.
+mod book;
+mod bytes;
+mod fields;
+mod question;
+mod snapshot;
+
+ghost use mathlib.Core.Path.{_≡_};
+ghost use Rattle.semantics.specs.Contract.{house as houseBook};
+ghost use Rattle.formats.specs.Refusal.{Read};
+
+// Where reading stands: at a place of the bytes, or at the first fault met, with its number.
+pub enum Cursor {
+    At(usize),
+    Fault(u8),
+}
+
+// A byte that was read, and where reading goes on. After a fault the value is one that a byte there may have.
+pub struct Entry {
+    pub cursor: Cursor,
+    pub value: u8,
+}
+
+// A number of four bytes that was read, and where reading goes on.
+pub struct Number {
+    pub cursor: Cursor,
+    pub value: u32,
+}
+
+// What the ladder says: all was read, or the number of the refusal.
+pub enum Ladder {
+    Accepted,
+    Refused(u8),
+}
+
+// Refusals 1 to 9: the book, then the snapshot, then the question, each into its block. On a refusal what the blocks hold means nothing.
+pub fn read(
+    book: &[u8],
+    snapshot: &[u8],
+    question: &[u8],
+    rules: &mut [u8; 1168],
+    heap: &mut [u32; 97],
+    query: &mut [u32; 6],
+) -> Ladder
+    ensures { λ r. ⌜ Read (now (book .entry)) (now (snapshot .entry)) (now (question .entry)) (now (rules .exit)) (now (heap .exit)) (now (query .exit)) r ⌝ }
+{
+    match book::read_rules(book, rules) {
+        Ladder::Refused(n) => Ladder::Refused(n),
+        Ladder::Accepted => match snapshot::read_heap(snapshot, heap) {
+            Ladder::Refused(n) => Ladder::Refused(n),
+            Ladder::Accepted => question::read_query(question, rules, query),
+        },
+    }
+}
+
+// ---- the house book
+
+// H: segment (predicate 0), ring (1), and queue with free chain (2).
+pub const HOUSE: [u8; 46] = [
+    3, // predicates
+    2, // arguments of segment
+    1, // of ring
+    2, // of queue with free chain
+    4, // rules
+    0, // segment(a, b)
+    0, // nothing bound
+    1, // a condition:
+    0, // equal
+    0, // a
+    1, // b
+    0, // no cell
+    0, // no call
+    0, // segment(a, b)
+    1, // c is bound
+    0, // no condition
+    1, // a cell:
+    0, // at a
+    1, // with one field
+    2, // c
+    1, // a call:
+    0, // segment
+    2, // c
+    1, // b
+    1, // ring(a)
+    1, // b is bound
+    0, // no condition
+    1, // a cell:
+    0, // at a
+    1, // with one field
+    1, // b
+    1, // a call:
+    0, // segment
+    1, // b
+    0, // a
+    2, // queue with free chain (a, b)
+    0, // nothing bound
+    0, // no condition
+    0, // no cell
+    2, // two calls:
+    0, // segment
+    0, // a
+    255, // nil
+    0, // segment
+    1, // b
+    255, // nil
+];
+
+// H, to be lent like any book.
+pub fn house() -> [u8; 46]
+    ensures { λ r. ⌜ r ≡ houseBook ⌝ }
+{
+    HOUSE
+}
