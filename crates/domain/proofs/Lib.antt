@@ -1,0 +1,8 @@
+pub mod Insertion
+pub mod Values
+pub mod Among
+pub mod Variables
+pub mod Spares
+pub mod Keeping
+pub mod Placing
+pub mod Bridge

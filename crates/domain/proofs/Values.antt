@@ -1,0 +1,65 @@
+-- The values that the heap's and the query's blocks hold, by their places.
+use mathlib.Core.Path.{_≡_, ap₂, _∙_}
+use mathlib.Core.List.{List, [], _∷_, List·Memᴰ·tail}
+use Prim.Native.Nat.{ℕ, zero, suc, _+_, _-_, _*_, _≤_, _<_}
+use native.Mathlib.Omega.{arith}
+use lib.ListN.{length, getD, drop, length-drop, drop-of-length-le}
+use lib.Seq.{drop-cons}
+use Rattle.semantics.specs.Lists.{_∈_}
+use Rattle.semantics.specs.Heap.{Record, blank, recordValues, heapValues, WellFormedHeap}
+use Rattle.semantics.proofs.DomainFacts.{heap-length}
+use Rattle.words.specs.Block.{tabulate, entries, recordIn, heapIn}
+use Rattle.words.proofs.Tabulate.{tabulate-length, tabulate-at, tabulate-in}
+use Rattle.domain.specs.Insertion.{Room, Inserted}
+use Rattle.domain.proofs.Insertion.{inserted-none, inserted-also, inserted-room}
+
+-- ---- counts
+
+pub heap-count : (heap : List ℕ) → length (heapIn heap) ≡ getD heap 0 0
+unfolding heapIn
+heap-count heap = tabulate-length (getD heap 0 0) (λ (k : ℕ). recordIn heap (1 + 6 * k))
+
+pub entries-count : (block : List ℕ) (from n : ℕ) → length (entries block from n) ≡ n
+entries-count block from n = tabulate-length n (λ (i : ℕ). getD block (from + i) 0)
+
+module _ (heap : List ℕ) (formed : WellFormedHeap (heapIn heap)) where
+  pub records-few : getD heap 0 0 ≤ 16
+  records-few = omega (arith, formed .records-few, heap-count heap)
+
+  pub record-in : (k : ℕ) → k < getD heap 0 0 → recordIn heap (1 + 6 * k) ∈ heapIn heap
+  unfolding heapIn
+  record-in k h = tabulate-in (getD heap 0 0) (λ (i : ℕ). recordIn heap (1 + 6 * i)) k h
+
+  pub fields-few : (k : ℕ) → k < getD heap 0 0 → getD heap (1 + 6 * k + 1) 0 ≤ 4
+  fields-few k h =
+      omega (arith, formed .fields-few (recordIn heap (1 + 6 * k)) (record-in k h), entries-count heap (1 + 6 * k + 2) (getD heap (1 + 6 * k + 1) 0))
+
+-- ---- the heap's values, inserted from the last record to the first
+
+pub heap-end : {before : List ℕ} {n : ℕ} (heap : List ℕ) → length before ≡ 96 → Inserted before before n (heapValues (drop (getD heap 0 0) (heapIn heap))) n
+unfolding heapValues
+heap-end {before} {n} heap l = rw (drop-of-length-le (heapIn heap) {i = getD heap 0 0} (omega (arith, heap-count heap))) (inserted-none before n l)
+
+pub heap-down : {a b c : List ℕ} {n m r : ℕ} (heap : List ℕ) (k : ℕ) → 0 < k → k ≤ getD heap 0 0 → Inserted a b n (heapValues (drop k (heapIn heap))) m
+    → Inserted b c m (recordValues (recordIn heap (1 + 6 * (k - 1)))) r → Inserted a c n (heapValues (drop (k - 1) (heapIn heap))) r
+unfolding heapValues heapIn
+heap-down heap k h l p q =
+    let f : ℕ → Record = λ i. recordIn heap (1 + 6 * i) in
+    let n : ℕ = getD heap 0 0 in
+    let s : suc (k - 1) ≡ k = omega arith in
+    let here : drop (k - 1) (tabulate n f) ≡ f (k - 1) ∷ drop k (tabulate n f) =
+    drop-cons (tabulate n f) (k - 1) blank (omega (arith, tabulate-length n f))
+    ∙ ap₂ (λ (r : Record) (i : ℕ). r ∷ drop i (tabulate n f)) (tabulate-at n f blank (k - 1) (omega arith)) s in
+    rw here (inserted-also (recordValues (f (k - 1))) (heapValues (drop k (tabulate n f))) p q)
+
+-- members of what is left of a list are members of the list
+drop-in : {A : Type 0} {a : A} (k : ℕ) (xs : List A) → a ∈ drop k xs → a ∈ xs
+drop-in zero xs m = m
+drop-in (suc k) [] m = m
+drop-in (suc k) (x ∷ xs) m = List·Memᴰ·tail (drop-in k xs m)
+
+pub heap-room : {a b : List ℕ} {n m : ℕ} (heap : List ℕ) (k : ℕ) → WellFormedHeap (heapIn heap) → 0 < k → k ≤ getD heap 0 0 → Room a n 80
+    → Inserted a b n (heapValues (drop k (heapIn heap))) m → Room b m 5
+heap-room heap k formed l h r p =
+    inserted-room 5 r p
+    (omega (arith, heap-length (drop k (heapIn heap)) (λ here m. formed .fields-few here (drop-in k (heapIn heap) m)), length-drop k (heapIn heap), heap-count heap, formed .records-few))

@@ -1,0 +1,4 @@
+pub mod Insertion
+pub mod Spare
+pub mod Kept
+pub mod Placed
