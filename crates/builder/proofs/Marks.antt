@@ -1,0 +1,64 @@
+-- Marks and line numbers by place, as the code indexes them, and what a store leaves of the three words of each place.
+use mathlib.Core.List.{List, [], _∷_, map}
+use mathlib.Core.Logic.{_≢_, _⊎_, inl, inr, ⊎-elim}
+use mathlib.Core.Path.{_≡_, refl, sym, ap, ap₂, _∙_}
+use Prim.Native.Nat.{ℕ, zero, suc, _+_, _-_, _*_, _/_, _%_, _≤_, _<_}
+use native.Mathlib.Omega.{arith}
+use lib.ListN.{length, getD, set, length-set}
+use lib.Seq.{getD-set-same, getD-set-other}
+use Rattle.semantics.specs.Lists.{digits, digitsOf}
+use Rattle.builder.specs.Space.{markAt, positionsIn, namesIn, calledIn, calledAt}
+use Rattle.builder.specs.Steps.{marking, numberAt}
+
+pub marking-at : (space : List ℕ) (c : ℕ) → 0 < c → set space (3 * c - 3) 1 ≡ marking space c
+marking-at space zero h = absurd (omega arith)
+marking-at space (suc j) h = let e : 3 * suc j - 3 ≡ 3 * j = omega arith in ap (λ (i : ℕ). set space i 1) e
+
+pub marking-none : (space : List ℕ) (c : ℕ) → c ≡ 0 → space ≡ marking space c
+marking-none space zero h = refl
+marking-none space (suc j) h = absurd (omega arith)
+
+pub number-at : (space : List ℕ) (c : ℕ) → c ≢ 0 → getD space (3 * c - 3) 0 % 65536 ≡ numberAt space c
+number-at space zero z = absurd (z refl)
+number-at space (suc j) z = let e : 3 * suc j - 3 ≡ 3 * j = omega arith in ap (λ (i : ℕ). getD space i 0 % 65536) e
+
+-- the three called places, one by one
+pub renamed-by-one : (space : List ℕ) (names : ℕ)
+    → names % 256 + 256 * digits 65536 (numberAt space (calledAt names 0) ∷ numberAt space (calledAt names 1) ∷ numberAt space (calledAt names 2) ∷ [])
+    ≡ names % 256 + 256 * digits 65536 (map (numberAt space) (calledIn names))
+unfolding digitsOf
+renamed-by-one space names = refl
+
+pub renamed-is : (space : List ℕ) (names : ℕ) {rule a b c x y z : ℕ} → rule ≡ names % 256 → a ≡ numberAt space x → x ≡ calledAt names 0
+    → b ≡ numberAt space y → y ≡ calledAt names 1 → c ≡ numberAt space z → z ≡ calledAt names 2
+    → rule + 256 * digits 65536 (a ∷ b ∷ c ∷ []) ≡ names % 256 + 256 * digits 65536 (map (numberAt space) (calledIn names))
+renamed-is space names r a x b y c z = cc (renamed-by-one space names)
+
+-- What a store leaves of the other words.
+module _ (space : List ℕ) (i j x : ℕ) where
+  pub mark-other : j ≢ i → markAt (set space (3 * i) x) j ≡ markAt space j
+  mark-other n = getD-set-other space (3 * i) (3 * j) x 0 (λ e. n (omega arith))
+
+  pub mark-positions : positionsIn (set space (3 * i) x) j ≡ positionsIn space j
+  mark-positions = getD-set-other space (3 * i) (3 * j + 1) x 0 (λ e. omega arith)
+
+  pub mark-names : namesIn (set space (3 * i) x) j ≡ namesIn space j
+  mark-names = getD-set-other space (3 * i) (3 * j + 2) x 0 (λ e. omega arith)
+
+  pub positions-marks : markAt (set space (3 * i + 1) x) j ≡ markAt space j
+  positions-marks = getD-set-other space (3 * i + 1) (3 * j) x 0 (λ e. omega arith)
+
+  pub positions-other : j ≢ i → positionsIn (set space (3 * i + 1) x) j ≡ positionsIn space j
+  positions-other n = getD-set-other space (3 * i + 1) (3 * j + 1) x 0 (λ e. n (omega arith))
+
+  pub positions-names : namesIn (set space (3 * i + 1) x) j ≡ namesIn space j
+  positions-names = getD-set-other space (3 * i + 1) (3 * j + 2) x 0 (λ e. omega arith)
+
+  pub names-marks : markAt (set space (3 * i + 2) x) j ≡ markAt space j
+  names-marks = getD-set-other space (3 * i + 2) (3 * j) x 0 (λ e. omega arith)
+
+  pub names-positions : positionsIn (set space (3 * i + 2) x) j ≡ positionsIn space j
+  names-positions = getD-set-other space (3 * i + 2) (3 * j + 1) x 0 (λ e. omega arith)
+
+  pub names-other : j ≢ i → namesIn (set space (3 * i + 2) x) j ≡ namesIn space j
+  names-other n = getD-set-other space (3 * i + 2) (3 * j + 2) x 0 (λ e. n (omega arith))

@@ -1,0 +1,71 @@
+-- The unfolding space while a certificate is built: three words for each place of the table. The first is the place's mark, and later its
+-- line's number; the second and the third are its line's, with places counted from 1 where line numbers come.
+use mathlib.Core.Bool.{Bool, true, false}
+use mathlib.Core.List.{List, [], _∷_, _++_, map}
+use mathlib.Core.Logic.{_⊎_, _≢_}
+use mathlib.Core.Path.{_≡_}
+use Prim.Native.Nat.{ℕ, zero, suc, _+_, _-_, _*_, _/_, _%_, _≤_, _<_}
+use lib.ListN.{length, getD}
+use lib.Dec.{eqb}
+use Rattle.semantics.specs.Lists.{_∈_, digits, digitsOf}
+use Rattle.semantics.specs.RuleSet.{RuleSet, ruleOf}
+use Rattle.semantics.specs.Heap.{Heap}
+use Rattle.semantics.specs.Fact.{position}
+use Rattle.semantics.specs.Rounds.{Ground}
+use Rattle.table.specs.Layered.{codeAt, roundAt}
+
+abbrev pub markAt : List ℕ → ℕ → ℕ
+markAt space i = getD space (3 * i) 0
+
+abbrev pub positionsIn : List ℕ → ℕ → ℕ
+positionsIn space i = getD space (3 * i + 1) 0
+
+abbrev pub namesIn : List ℕ → ℕ → ℕ
+namesIn space i = getD space (3 * i + 2) 0
+
+-- The called places of a third word, counted from 1; 0 for none.
+abbrev pub calledIn : ℕ → List ℕ
+calledIn names = digitsOf 65536 3 (names / 256)
+
+-- Called place k of a third word.
+abbrev pub calledAt : ℕ → ℕ → ℕ
+calledAt names k = getD (calledIn names) k 0
+
+-- A place of an earlier round than that of place i, and before it.
+pub record Earlier (table : List ℕ) (i j : ℕ) : Type 0 where
+  pub before : j < i
+  pub round : roundAt table j < roundAt table i
+
+-- A ground of the fact f from facts at allowed places of the table, in the second and the third word of a line.
+pub record Grounded (ruleSet : RuleSet) (heap : Heap) (domain table : List ℕ) (Allowed : ℕ → Type 0) (f positions names : ℕ) : Type 0 where
+  pub places : List ℕ
+  pub allowed : (j : ℕ) → j ∈ places → Allowed j
+  pub ground : Ground ruleSet heap domain (map (codeAt table) places) f
+  pub number : ℕ
+  pub in-rule-set : number < length (ruleSet .rules)
+  pub is-rule : ruleOf ruleSet number ≡ ground .rule
+  pub written : positions ≡ digits 256 (map (position domain) (ground .arguments ++ ground .bound))
+  pub named : names ≡ number + 256 * digits 65536 (map suc places)
+
+-- The marked places up to `at`: the last is marked, what a marked place calls is marked and before it, and each marked place but the last is
+-- called by a later one.
+pub record Planned (at : ℕ) (space : List ℕ) : Type 0 where
+  pub root : markAt space at ≢ 0
+  pub calls : (i : ℕ) → i ≤ at → markAt space i ≢ 0 → (k : ℕ) → k < 3
+      → (calledAt (namesIn space i) k ≡ 0) ⊎ ((j : ℕ) × (j < i) × (markAt space j ≢ 0) × (calledAt (namesIn space i) k ≡ suc j))
+  pub used : (i : ℕ) → i < at → markAt space i ≢ 0
+      → (j : ℕ) × (i < j) × (j ≤ at) × (markAt space j ≢ 0) × (k : ℕ) × (k < 3) × (calledAt (namesIn space j) k ≡ suc i)
+
+-- How many places below n are marked.
+unfoldable pub count : List ℕ → ℕ → ℕ
+count space zero = 0
+count space (suc n) = elim (eqb (markAt space n) 0) [ true ↦ count space n | false ↦ suc (count space n) ]
+
+-- The number of the line of a place counted from 1; 0 for none.
+unfoldable pub lineOf : List ℕ → ℕ → ℕ
+lineOf space zero = 0
+lineOf space (suc i) = suc (count space i)
+
+-- A third word with line numbers for places.
+abbrev pub renamed : List ℕ → ℕ → ℕ
+renamed space names = names % 256 + 256 * digits 65536 (map (lineOf space) (calledIn names))

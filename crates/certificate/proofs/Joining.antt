@@ -1,0 +1,52 @@
+-- The disjoint join of subheaps, one after the other onto those used so far, is the join of the definition; and joined subheaps stay small.
+use mathlib.Core.Path.{_≡_, refl}
+use mathlib.Core.List.{List, [], _∷_, List·Memᴰ·head, List·Memᴰ·tail}
+use Prim.Native.Nat.{ℕ, _+_, _<_}
+use native.Mathlib.Omega.{arith}
+use lib.Bits.{bitAnd, and-zero-l, and-zero-r, or-lt, or-disjoint}
+use Rattle.semantics.specs.Heap.{Joins}
+use Rattle.semantics.specs.Lists.{_∈_}
+use Rattle.search.proofs.Disjoint.{apart-split, apart-join}
+
+-- The subheaps, joined one by one to those used, make up the whole.
+pub data Onto : List ℕ → ℕ → ℕ → Type 0 where
+  none : {used whole : ℕ} → used ≡ whole → Onto [] used whole
+  next : {part used whole : ℕ} {parts : List ℕ} → bitAnd part used ≡ 0 → Onto parts (part + used) whole → Onto (part ∷ parts) used whole
+
+record Rest (parts : List ℕ) (used whole : ℕ) : Type 0 where
+  pub rest : ℕ
+  pub joins : Joins parts rest
+  pub apart : bitAnd used rest ≡ 0
+  pub sum : whole ≡ used + rest
+
+onto-rest : {parts : List ℕ} {used whole : ℕ} → Onto parts used whole → Rest parts used whole
+onto-rest {used = used} (Onto.none e) = record { rest = 0; joins = Joins.none; apart = and-zero-r used; sum = omega arith }
+onto-rest {used = used} {whole = whole} (Onto.next {part = part} {parts = parts} h o) = step (onto-rest o)
+  where
+    step : Rest parts (part + used) whole → Rest (part ∷ parts) used whole
+    step r =
+        let (a, b) = apart-join part used (r .rest) h (r .apart) in
+        record { rest = part + r .rest; joins = Joins.next a (r .joins) refl; apart = b; sum = omega (arith, r .sum) }
+
+pub onto-joins : (parts : List ℕ) (whole : ℕ) → Onto parts 0 whole → Joins parts whole
+onto-joins parts whole o = let r = onto-rest o in let e : r .rest ≡ whole = omega (arith, r .sum) in rw e at (r .joins)
+
+joins-rest : {parts : List ℕ} {rest : ℕ} → Joins parts rest → (used whole : ℕ) → bitAnd used rest ≡ 0 → whole ≡ used + rest → Onto parts used whole
+joins-rest Joins.none used whole h e = Onto.none {used = used} {whole = whole} (omega arith)
+joins-rest (Joins.next {part = part} {rest = rest} a j w) used whole h e =
+    let h′ : bitAnd used (part + rest) ≡ 0 = rw w at h in
+    let (p, q) = apart-split part used rest a h′ in
+    Onto.next p (joins-rest j (part + used) whole q (omega arith))
+
+pub joins-onto : (parts : List ℕ) (whole : ℕ) → Joins parts whole → Onto parts 0 whole
+joins-onto parts whole j = joins-rest j 0 whole (and-zero-l whole) (omega arith)
+
+-- ---- sizes
+
+pub sum-small : (a b : ℕ) → a < 65536 → b < 65536 → bitAnd a b ≡ 0 → a + b < 65536
+sum-small a b ha hb e = omega (arith, or-lt 16 a b ha hb, or-disjoint a b e)
+
+pub joins-small : {parts : List ℕ} {whole : ℕ} → Joins parts whole → ((p : ℕ) → p ∈ parts → p < 65536) → whole < 65536
+joins-small Joins.none h = omega arith
+joins-small (Joins.next {part = part} {rest = rest} a j w) h =
+    omega (arith, sum-small part rest (h part (List·Memᴰ·head refl)) (joins-small j (λ p m. h p (List·Memᴰ·tail m))) a)

@@ -1,0 +1,8 @@
+pub mod Answers
+pub mod Reading
+pub mod Positions
+pub mod Joining
+pub mod Values
+pub mod Joined
+pub mod Lines
+pub mod Passing

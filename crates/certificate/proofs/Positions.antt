@@ -1,0 +1,64 @@
+-- Positions in a line's second word: digit by digit, as the check passes them, and all at once, as the definition has them.
+use mathlib.Core.Path.{_≡_, refl, sym, _∙_}
+use mathlib.Core.List.{List, [], _∷_, List·Memᴰ, List·Memᴰ·head, List·Memᴰ·tail, List·Memᴰ·cases-cons, List·Memᴰ·not-nil}
+use mathlib.Core.Logic.{⊎-elim}
+use Prim.Native.Nat.{ℕ, zero, suc, _+_, _-_, _*_, _/_, _%_, _≤_, _<_}
+use native.Mathlib.Omega.{arith}
+use lib.ListN.{length, getD}
+use Rattle.semantics.specs.Lists.{_∈_, digits, digitsOf}
+use Rattle.words.proofs.Digits.{digit-at}
+use Rattle.certificate.specs.Line.{Positions}
+
+-- ---- one position on
+
+pub positions-first : (n left word : ℕ) → 0 < left → Positions n left word → word % 256 < n
+unfolding Positions
+positions-first n zero word h p = absurd (omega arith)
+positions-first n (suc left) word h p = p .0
+
+pub positions-rest : (n left word : ℕ) → 0 < left → Positions n left word → Positions n (left - 1) (word / 256)
+unfolding Positions
+positions-rest n zero word h p = absurd (omega arith)
+positions-rest n (suc left) word h p = let e : suc left - 1 ≡ left = omega arith in rw e (p .1)
+
+pub positions-more : (n left word : ℕ) → 0 < left → word % 256 < n → Positions n (left - 1) (word / 256) → Positions n left word
+unfolding Positions
+positions-more n zero word h f p = absurd (omega arith)
+positions-more n (suc left) word h f p = let e : suc left - 1 ≡ left = omega arith in (f, rw e at p)
+
+pub positions-end : (n left word : ℕ) → left ≤ 0 → word ≡ 0 → Positions n left word
+unfolding Positions
+positions-end n zero word h e = e
+positions-end n (suc left) word h e = absurd (omega arith)
+
+pub positions-none : (n left word : ℕ) → left ≤ 0 → Positions n left word → word ≡ 0
+unfolding Positions
+positions-none n zero word h p = p
+positions-none n (suc left) word h p = absurd (omega arith)
+
+-- ---- all positions
+
+-- the word is that of its digits
+pub positions-word : (n v word : ℕ) → Positions n v word → word ≡ digits 256 (digitsOf 256 v word)
+unfolding Positions digits digitsOf
+positions-word n zero word p = p
+positions-word n (suc v) word p = omega (arith, positions-word n v (word / 256) (p .1))
+
+pub positions-below : (n v word : ℕ) → Positions n v word → (p : ℕ) → p ∈ digitsOf 256 v word → p < n
+unfolding Positions digitsOf
+positions-below n zero word h p m = absurd (List·Memᴰ·not-nil m)
+positions-below n (suc v) word h p m =
+    ⊎-elim (λ (e : p ≡ word % 256). rw e (h .0)) (positions-below n v (word / 256) (h .1) p) (List·Memᴰ·cases-cons m)
+
+-- and a word of positions passes
+pub positions-pass : (n : ℕ) (ps : List ℕ) → n ≤ 256 → ((p : ℕ) → p ∈ ps → p < n) → Positions n (length ps) (digits 256 ps)
+unfolding Positions digits
+positions-pass n [] few h = refl
+positions-pass n (p ∷ ps) few h =
+    let l : p < n = h p (List·Memᴰ·head refl) in
+    let d : (p + 256 * digits 256 ps) / 256 ≡ digits 256 ps = omega arith in
+    (omega arith, rw d (positions-pass n ps few (λ q m. h q (List·Memᴰ·tail m))))
+
+-- the same digit of two readings
+pub same-digit : (m n word i : ℕ) → i < m → i < n → getD (digitsOf 256 m word) i 0 ≡ getD (digitsOf 256 n word) i 0
+same-digit m n word i h l = digit-at 8 m word i h ∙ sym (digit-at 8 n word i l)

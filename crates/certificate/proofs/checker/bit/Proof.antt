@@ -1,0 +1,18 @@
+-- `bit` shifts one, which stays below 2 ^ 16.
+use borrow.Author.Needs.{needs}
+use native.Mathlib.Omega.{arith}
+use lib.Pow.{pow-lt}
+use Rattle.certificate.proofs.checker.bit.Statement.{statement}
+use Rattle.certificate.proofs.checker.bit.Tie as tie
+
+cast-result : tie.Need-cast-result
+cast-result c = search needs
+
+shl-result : tie.Need-shl-result
+shl-result c = search needs
+
+returns : tie.Need-returns
+returns c = omega (arith, pow-lt (c .pre))
+
+pub bit-spec : {M : Type 1} → statement M
+bit-spec = tie.close (tie.spec cast-result shl-result returns)

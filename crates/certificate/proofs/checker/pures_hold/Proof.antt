@@ -1,0 +1,81 @@
+-- `pures_hold` passes the conditions one by one: those passed hold, and the first that does not is the answer no.
+use borrow.Author.Needs.{needs}
+use Prim.Native.Nat.{ℕ, _+_, _-_, _*_, _≤_, _<_}
+use native.Mathlib.Omega.{arith}
+use borrow.Author.Count.{below-none, below-more}
+use Rattle.semantics.specs.Tree.{Meets}
+use Rattle.words.specs.Block.{pureIn}
+use Rattle.certificate.specs.Line.{givenBy}
+use Rattle.certificate.proofs.Answers.{told-true, told-false}
+use Rattle.certificate.proofs.checker.pures_hold.Statement.{statement}
+use Rattle.certificate.proofs.checker.pures_hold.Tie as tie
+
+abbrev Inv-loop : tie.InvT-loop
+Inv-loop rules at word count k₀ k =
+    (k ≤ count) × ((j : ℕ) → j < k → Meets (givenBy word) (pureIn rules (at + 8 + 3 * j)))
+
+abbrev μ-loop : tie.MeasureT-loop
+μ-loop rules at word count k₀ k = count - k
+
+add-wide : tie.Need-add-wide Inv-loop μ-loop
+add-wide c = search needs
+
+element-copy-out-wide : tie.Need-element-copy-out-wide Inv-loop μ-loop
+element-copy-out-wide c = search needs
+
+wide-requires : tie.Need-wide-requires Inv-loop μ-loop
+wide-requires c κs = search needs
+
+loop-holds : tie.Need-loop-holds Inv-loop μ-loop
+loop-holds c = (omega arith, below-none _)
+
+add-pure-holds : tie.Need-add-pure-holds Inv-loop μ-loop
+add-pure-holds c = search needs
+
+mul-pure-holds : tie.Need-mul-pure-holds Inv-loop μ-loop
+mul-pure-holds c = search needs
+
+add-pure-holds-2 : tie.Need-add-pure-holds-2 Inv-loop μ-loop
+add-pure-holds-2 c = search needs
+
+pure-holds-requires : tie.Need-pure-holds-requires Inv-loop μ-loop
+pure-holds-requires c κs = search needs
+
+add-k : tie.Need-add-k Inv-loop μ-loop
+add-k c = search needs
+
+loop-less : tie.Need-loop-less Inv-loop μ-loop
+loop-less c = search needs
+
+loop-again : tie.Need-loop-again Inv-loop μ-loop
+loop-again c = (omega arith, below-more _ _ (c .before .before .before .loop .inv .1) (c .before .pure-holds .ensures .so (c .if1 .taken)))
+
+returns : tie.Need-returns Inv-loop μ-loop
+returns c =
+    let l = c .before .before .before .loop in
+    told-false (λ p. c .before .pure-holds .ensures .not-so (c .if1 .left) (p .each (l .k) (omega (arith, c .before .before .before .before .wide .ensures))))
+
+returns-2 : tie.Need-returns-2 Inv-loop μ-loop
+returns-2 c =
+    let l = c .before .loop in
+    told-true (record { each = λ j h. l .inv .1 j (omega (arith, c .before .before .wide .ensures)) })
+
+pub pures-hold-spec : {M : Type 1} → statement M
+pures-hold-spec =
+    tie.close
+    (tie.spec
+    Inv-loop
+    μ-loop
+    add-wide
+    element-copy-out-wide
+    wide-requires
+    loop-holds
+    add-pure-holds
+    mul-pure-holds
+    add-pure-holds-2
+    pure-holds-requires
+    add-k
+    loop-less
+    loop-again
+    returns
+    returns-2)
