@@ -1,0 +1,27 @@
+use Rattle.words.specs.Block.{inputIn}
+use Rattle.search.proofs.ReadyBlocks.{ready-of}
+use borrow.Author.Needs.{needs}
+use Rattle.engine.proofs.takes.Statement.{statement}
+use Rattle.engine.proofs.takes.Tie as tie
+use Rattle.engine.proofs.takes.Reads as reads
+use Rattle.engine.proofs.takes.Lts as lts
+use Rattle.certificate.proofs.checker.check.Reads as check-reads
+use Rattle.engine.proofs.place.Reads as place-reads
+
+-- src/lib.rt:81:9
+place-requires : tie.Need-place-requires
+place-requires c κs = search needs
+
+-- src/lib.rt:84:5
+check-requires : tie.Need-check-requires
+check-requires c κs = ready-of _ _ _ _ _ (c .before .place .ensures .represents)
+
+-- src/lib.rt:76:1
+returns : tie.Need-returns
+unfolding inputIn
+returns c =
+    let s = c .before .before .place .ensures in
+    c .check .ensures .exact _ _ (s .represents) _ _ _ (s .is-last)
+
+pub takes-spec : {M : Type 1} → statement M
+takes-spec = tie.close (tie.spec place-requires check-requires returns)
