@@ -1,0 +1,14 @@
+#!/usr/bin/env bash
+# The C and the Rust caller under a memory checker, and the stack that the
+# entries use. Build the Rust one first: cargo build --release --offline
+set -euo pipefail
+cd "$(dirname "$0")"
+library=${DESK_LIB:-../target/staticlib}
+checked="valgrind -q --error-exitcode=1 --leak-check=full"
+
+cc -std=c11 -Wall -Wextra -Werror -O1 -g caller.c -L"$library" -ldesk -lpthread -o target/caller
+target/caller --stack hostile/*.bin
+# The quick ones: under the checker all is some fifty times slower.
+$checked target/caller hostile/{unequal-only,equality-chains,always-true-16,mutual-rotation}.bin
+$checked target/release/compare --no-program --thin 300
+echo "no memory errors"

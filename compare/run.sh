@@ -1,0 +1,10 @@
+#!/usr/bin/env bash
+# The gate's part: the proved library and bench program, compared with the
+# reference. Words go to the program, as --long.
+set -euo pipefail
+cd "$(dirname "$0")/.."
+rt staticlib desk
+rt check bench
+cd compare
+cargo build --release --offline --quiet
+exec target/release/compare "$@"

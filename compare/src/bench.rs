@@ -1,0 +1,149 @@
+//! The benchmark: proved program beside the reference, as ratios.
+
+use crate::books;
+use crate::compare::{number, number_line};
+use crate::desk;
+use crate::hostile::{self, Hostile};
+use crate::input::Input;
+use crate::random::Dice;
+use crate::shapes::{self, Shape};
+use reference::api;
+use std::io;
+use std::time::{Duration, Instant};
+
+/// A pool is run again and again for about this long, but at least once.
+const TIME_EACH: Duration = Duration::from_millis(400);
+
+/// Hostile inputs are to be answered within this.
+const HOSTILE_LIMIT: Duration = Duration::from_secs(1);
+
+/// The pools with names, for ratios and for instruction counts.
+pub fn pools() -> Vec<(String, Input)> {
+    let dice = &mut Dice::new(1, 0);
+    let mut pools = Vec::new();
+    let mut add = |name: String, shape: Shape| {
+        pools.push((name, Input::new(&shape.book, &shape.heap, &shape.query)));
+    };
+    for size in [2, 4, 8, 16] {
+        add(format!("chain-L-{size}"), shapes::chain(dice, size));
+    }
+    for size in [2, 4, 8, 16] {
+        let mut shape = shapes::chain(dice, size);
+        shape.book = books::house();
+        add(format!("chain-H-{size}"), shape);
+    }
+    for size in [2, 4, 8, 16] {
+        add(format!("ring-H-{size}"), shapes::ring(dice, size));
+    }
+    add("queue-H-8-8".into(), shapes::queue(dice, 8, 8));
+    add("tree-15".into(), shapes::tree(dice, 15));
+    add("doubly-linked-16".into(), shapes::doubly_linked(dice, 16));
+    // 8 and 10 records give 256 and 1,024 facts; from 11 on the table of 1,024
+    // lines is full, and the time is that until it is.
+    for size in [4, 6, 8, 10, 12, 15] {
+        add(format!("always-true-{size}"), shapes::anything(dice, size));
+    }
+    for (name, input) in hostile::made() {
+        if ["unequal-only", "unmet-at-the-end", "three-calls"].contains(&name) {
+            pools.push((name.into(), input));
+        }
+    }
+    pools
+}
+
+/// Kept apart from their callers, so that instructions can be counted in them.
+#[inline(never)]
+pub fn measured_proved(input: &Input) -> u64 {
+    desk::decide(&input.book, &input.snapshot, &input.question)
+}
+
+#[inline(never)]
+pub fn measured_reference(input: &Input) -> u64 {
+    api::desk_engine(&input.book, &input.snapshot, &input.question) as u64
+}
+
+pub fn run() -> io::Result<()> {
+    println!("Both programs have a table of 1,024 lines here, as the desk's entry does.");
+    println!();
+    println!("| pool | reply | facts | rounds | reference / proved | proved µs | reference µs |");
+    println!("|-|-|-|-|-|-|-|");
+    for (name, input) in pools() {
+        row(&name, &input);
+    }
+    println!();
+    println!("| hostile input | reply | facts | rounds | proved ms | |");
+    println!("|-|-|-|-|-|-|");
+    for hostile in hostile::kept()? {
+        hostile_row(&hostile);
+    }
+    Ok(())
+}
+
+fn row(name: &str, input: &Input) {
+    let reply = api::bench_reply(&input.bench_bytes());
+    let (proved, reference) = fastest(input);
+    println!(
+        "| {name} | {} {} | {} | {} | {:.1} | {:.1} | {:.1} |",
+        reply.refusal,
+        reply.verdict,
+        reply.facts,
+        reply.rounds,
+        reference.as_secs_f64() / proved.as_secs_f64(),
+        proved.as_secs_f64() * 1e6,
+        reference.as_secs_f64() * 1e6,
+    );
+}
+
+/// The fastest run of each. They take turns, so that what else the machine
+/// does meets both.
+fn fastest(input: &Input) -> (Duration, Duration) {
+    let start = Instant::now();
+    let (mut proved, mut reference) = (Duration::MAX, Duration::MAX);
+    loop {
+        proved = proved.min(time(|| measured_proved(input)));
+        reference = reference.min(time(|| measured_reference(input)));
+        if start.elapsed() > TIME_EACH {
+            return (proved, reference);
+        }
+    }
+}
+
+fn time(call: impl FnOnce() -> u64) -> Duration {
+    let start = Instant::now();
+    std::hint::black_box(call());
+    start.elapsed()
+}
+
+fn hostile_row(hostile: &Hostile) {
+    let reply = hostile.reply;
+    let start = Instant::now();
+    let answer = measured_proved(&hostile.input);
+    let taken = start.elapsed();
+    let mut notes = Vec::new();
+    if answer != number(reply) {
+        notes.push(format!("WRONG: {}", number_line(answer)));
+    }
+    if taken > HOSTILE_LIMIT {
+        notes.push("over a second".into());
+    }
+    println!(
+        "| {} | {} {} | {} | {} | {:.1} | {} |",
+        hostile.name,
+        reply.refusal,
+        reply.verdict,
+        reply.facts,
+        reply.rounds,
+        taken.as_secs_f64() * 1e3,
+        notes.join(", ")
+    );
+}
+
+/// One call on a named pool, for instruction counts.
+pub fn once(name: &str, proved: bool) -> Option<u64> {
+    let (_, input) = pools().into_iter().find(|(pool, _)| pool == name)?;
+    Some(if proved {
+        measured_proved(&input)
+    } else {
+        measured_reference(&input)
+    })
+}

@@ -1,0 +1,143 @@
+//! Pools that fit a book, grown from a question downwards by its rules.
+//!
+//! Values are left open while rules are unfolded: each is a node, equalities
+//! join nodes, and numbers are given out at the end. Unequal conditions are
+//! left to luck, so now and then the pool does not fit after all.
+
+use crate::input::{Book, Heap, Query, Rule, MOST_RECORDS, NIL};
+use crate::random::Dice;
+use crate::shapes;
+
+/// Rules unfolded for one pool, at most.
+const MOST_UNFOLDED: usize = 60;
+
+/// Values that are no address start here.
+const OUTSIDE: u32 = 5_000;
+
+/// A pool of about so many records and the question it was grown from.
+pub fn grow(dice: &mut Dice, book: &Book, wanted: usize) -> (Heap, Query) {
+    let mut growth = Growth {
+        book,
+        parents: vec![0],
+        records: Vec::new(),
+        wanted,
+        left: MOST_UNFOLDED,
+    };
+    let predicate = dice.below(book.arities.len()) as u8;
+    let arity = book.arities[predicate as usize];
+    let arguments: Vec<usize> = (0..arity).map(|_| growth.node()).collect();
+    growth.unfold(dice, predicate, &arguments);
+    growth.settle(dice, predicate, &arguments)
+}
+
+struct Growth<'a> {
+    book: &'a Book,
+    /// Each node's parent; a root is its own. Node 0 is nil.
+    parents: Vec<usize>,
+    /// Nodes of address and fields.
+    records: Vec<(usize, Vec<usize>)>,
+    wanted: usize,
+    /// How many rules may still be unfolded.
+    left: usize,
+}
+
+impl<'a> Growth<'a> {
+    fn node(&mut self) -> usize {
+        self.parents.push(self.parents.len());
+        self.parents.len() - 1
+    }
+
+    fn root(&self, mut node: usize) -> usize {
+        while self.parents[node] != node {
+            node = self.parents[node];
+        }
+        node
+    }
+
+    fn join(&mut self, one: usize, other: usize) {
+        let (one, other) = (self.root(one), self.root(other));
+        // The lower one stays root, so nil does.
+        self.parents[one.max(other)] = one.min(other);
+    }
+
+    fn unfold(&mut self, dice: &mut Dice, predicate: u8, arguments: &[usize]) {
+        let Some(rule) = self.choose(dice, predicate) else {
+            return;
+        };
+        self.left -= 1;
+        let mut nodes = arguments.to_vec();
+        nodes.extend((0..rule.bound).map(|_| self.node()));
+        let node = |term: u8| match term {
+            NIL => 0,
+            _ => nodes[term as usize],
+        };
+        for pure in rule.pures.iter().filter(|pure| pure[0] == 0) {
+            self.join(node(pure[1]), node(pure[2]));
+        }
+        for (address, fields) in &rule.cells {
+            let fields = fields.iter().map(|&term| node(term)).collect();
+            self.records.push((node(*address), fields));
+        }
+        for (predicate, terms) in &rule.calls {
+            let arguments: Vec<usize> = terms.iter().map(|&term| node(term)).collect();
+            self.unfold(dice, *predicate, &arguments);
+        }
+    }
+
+    /// Any rule while records are wanted, then the one that ends soonest.
+    fn choose(&self, dice: &mut Dice, predicate: u8) -> Option<&'a Rule> {
+        let all = self.book.rules.iter();
+        let rules: Vec<&Rule> = all.filter(|rule| rule.head == predicate).collect();
+        if rules.is_empty() || self.left == 0 {
+            None
+        } else if self.records.len() < self.wanted {
+            let going: Vec<&Rule> = rules
+                .iter()
+                .copied()
+                .filter(|rule| !rule.calls.is_empty())
+                .collect();
+            let goes_on = !going.is_empty() && dice.chance(75);
+            Some(dice.pick(if goes_on { &going } else { &rules }))
+        } else {
+            rules
+                .into_iter()
+                .min_by_key(|rule| (rule.calls.len(), rule.cells.len()))
+        }
+    }
+
+    /// Gives out the numbers. A record whose address is nil or taken already
+    /// cannot be, and is left away.
+    fn settle(&self, dice: &mut Dice, predicate: u8, arguments: &[usize]) -> (Heap, Query) {
+        let mut taken: Vec<usize> = Vec::new();
+        let mut kept = Vec::new();
+        for (address, fields) in &self.records {
+            let address = self.root(*address);
+            if address != 0 && !taken.contains(&address) && taken.len() < MOST_RECORDS {
+                taken.push(address);
+                kept.push((address, fields));
+            }
+        }
+        let places = shapes::places(dice, taken.len());
+        let mut values: Vec<u32> = (0..self.parents.len() as u32)
+            .map(|node| OUTSIDE + node)
+            .collect();
+        values[0] = 0;
+        for (&node, &place) in taken.iter().zip(&places) {
+            values[node] = place;
+        }
+        // Some of the others are made equal to something.
+        for node in 1..values.len() {
+            if !taken.contains(&node) && dice.chance(10) {
+                values[node] = dice.pick(&values);
+            }
+        }
+        let value = |&node: &usize| values[self.root(node)];
+        let mut heap = Heap::default();
+        for (address, fields) in kept {
+            let fields: Vec<u32> = fields.iter().map(value).collect();
+            heap = heap.with(values[address], &fields);
+        }
+        let arguments: Vec<u32> = arguments.iter().map(value).collect();
+        (heap, Query::new(predicate, &arguments))
+    }
+}

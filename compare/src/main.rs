@@ -1,0 +1,168 @@
+//! Compares the proved program with the reference on many inputs.
+
+mod bench;
+mod books;
+mod compare;
+mod damage;
+mod desk;
+mod generate;
+mod grow;
+mod hostile;
+mod input;
+mod mutate;
+mod patience;
+mod pools;
+mod random;
+mod shapes;
+mod small;
+mod unfoldings;
+
+use compare::{number_line, Comparer, Limit};
+use input::{from_hex, Input};
+use reference::api;
+use std::path::{Path, PathBuf};
+use std::process::ExitCode;
+use std::time::{Duration, SystemTime, UNIX_EPOCH};
+
+const USAGE: &str = "usage: compare [--seed N] [--long [COUNT | SECONDSs]] [--thin N]
+               [--pool NAME] [--program PATH | --no-program]
+       compare --bench
+       compare --names
+       compare --once POOL proved|reference
+       compare --input BOOK SNAPSHOT QUESTION [UNFOLDING]   (in hex, - for none)
+       compare --write-hostile";
+
+/// The gate's seed: any number will do, as long as it stays.
+const FIXED_SEED: u64 = 1;
+
+const LONG_COUNT: u64 = 1_000_000;
+
+struct Options {
+    seed: Option<u64>,
+    long: Option<Limit>,
+    thin: u64,
+    /// How the names of the pools to be run begin.
+    pool: String,
+    program: Option<PathBuf>,
+}
+
+fn main() -> ExitCode {
+    let words: Vec<String> = std::env::args().skip(1).collect();
+    let words: Vec<&str> = words.iter().map(String::as_str).collect();
+    let done = match words.split_first() {
+        Some((&"--bench", [])) => bench::run().is_ok(),
+        Some((&"--names", [])) => {
+            bench::pools()
+                .iter()
+                .for_each(|(name, _)| println!("{name}"));
+            true
+        }
+        Some((&"--once", [name, which @ ("proved" | "reference")])) => {
+            bench::once(name, *which == "proved").is_some()
+        }
+        Some((&"--input", parts)) => one_input(parts).is_some(),
+        Some((&"--write-hostile", [])) => hostile::write().is_ok(),
+        Some((&patience::OPTION, [])) => patience::attempt().is_ok(),
+        _ => match options(&words) {
+            Some(options) => return compare_all(options),
+            None => false,
+        },
+    };
+    if done {
+        ExitCode::SUCCESS
+    } else {
+        eprintln!("{USAGE}");
+        ExitCode::from(2)
+    }
+}
+
+fn options(words: &[&str]) -> Option<Options> {
+    let mut options = Options {
+        seed: None,
+        long: None,
+        thin: 1,
+        pool: String::new(),
+        program: Some(Path::new(env!("CARGO_MANIFEST_DIR")).join("../target/bin/bench")),
+    };
+    let mut words = words.iter().peekable();
+    while let Some(&word) = words.next() {
+        match word {
+            "--seed" => options.seed = Some(words.next()?.parse().ok()?),
+            "--long" => {
+                let amount = words.next_if(|word| !word.starts_with("--"));
+                options.long =
+                    Some(amount.map_or(Some(Limit::Inputs(LONG_COUNT)), |word| limit(word))?);
+            }
+            "--thin" => options.thin = words.next()?.parse().ok().filter(|&thin| thin > 0)?,
+            "--pool" => options.pool = words.next()?.to_string(),
+            "--program" => options.program = Some(PathBuf::from(words.next()?)),
+            "--no-program" => options.program = None,
+            _ => return None,
+        }
+    }
+    Some(options)
+}
+
+/// A count of inputs, or seconds with an s behind.
+fn limit(word: &str) -> Option<Limit> {
+    match word.strip_suffix('s') {
+        Some(seconds) => Some(Limit::Time(Duration::from_secs(seconds.parse().ok()?))),
+        None => Some(Limit::Inputs(word.parse().ok()?)),
+    }
+}
+
+fn compare_all(options: Options) -> ExitCode {
+    let mut comparer = Comparer::new(options.program, options.thin);
+    match options.long {
+        None => {
+            let seed = options.seed.unwrap_or(FIXED_SEED);
+            pools::once(&mut comparer, seed, &options.pool);
+        }
+        Some(limit) => {
+            let seed = options.seed.unwrap_or_else(seed_of_the_hour);
+            println!("seed {seed}");
+            pools::long(&mut comparer, seed, limit);
+        }
+    }
+    comparer.tally.print();
+    println!("{}", comparer.summary());
+    ExitCode::from((comparer.differences > 0) as u8)
+}
+
+/// A seed that nobody chose.
+fn seed_of_the_hour() -> u64 {
+    let now = SystemTime::now().duration_since(UNIX_EPOCH);
+    now.map_or(FIXED_SEED, |time| time.as_secs())
+}
+
+/// What both programs say to one input, as a difference prints it.
+fn one_input(words: &[&str]) -> Option<()> {
+    let parts: Option<Vec<Vec<u8>>> = words
+        .iter()
+        .map(|&word| from_hex(if word == "-" { "" } else { word }))
+        .collect();
+    let mut parts = parts?.into_iter();
+    let input = Input {
+        book: parts.next()?,
+        snapshot: parts.next()?,
+        question: parts.next()?,
+    };
+    let Input {
+        book,
+        snapshot,
+        question,
+    } = &input;
+    let (reference, proved) = match parts.next() {
+        None => (
+            api::desk_engine(book, snapshot, question) as u64,
+            desk::decide(book, snapshot, question),
+        ),
+        Some(unfolding) => (
+            api::desk_check(book, snapshot, question, &unfolding) as u64,
+            desk::check(book, snapshot, question, &unfolding),
+        ),
+    };
+    println!("reference {}", number_line(reference));
+    println!("proved    {}", number_line(proved));
+    Some(())
+}
