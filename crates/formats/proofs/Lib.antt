@@ -13,5 +13,6 @@ pub mod Naming
 pub mod QueryParts
 pub mod RuleParts
 pub mod Section
+pub mod Walk
 pub mod Whole
 pub mod Words

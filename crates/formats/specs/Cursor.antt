@@ -1,7 +1,7 @@
 -- Reading from a cursor, which keeps the first fault met: what the cursors of the code say in terms of the readers of the definitions.
 use mathlib.Core.List.{List}
 use mathlib.Core.Path.{_≡_}
-use Prim.Native.Nat.{ℕ, _≤_, _<_}
+use Prim.Native.Nat.{ℕ, _+_, _≤_, _<_}
 use lib.ListN.{drop}
 use lib.Dec.{leb, ltb}
 use Rattle.semantics.specs.Reader.{Got, got, fault, Reader, _>>=_, byte, ensure}
@@ -22,6 +22,15 @@ upto bytes (Fault n) a = fault n
 -- From one cursor to the other `read` reads the value, or meets the fault.
 pub record Yields {A : Type 0} (read : Reader A) (bytes : List ℕ) (c c′ : Cursor) (a : A) : Type 0 where
   pub is : on bytes c read ≡ upto bytes c′ a
+
+-- What a reader at a place answers: the byte and the place after it, or the fault, with 0 for the value.
+abbrev pub entryOf : ℕ → Got ℕ → Entry
+entryOf at (got b rest) = record { cursor = At (at + 1); value = b }
+entryOf at (fault n) = record { cursor = Fault n; value = 0 }
+
+-- The next byte from a place on, as the definition reads it.
+abbrev pub nextByte : (short : ℕ) → List ℕ → ℕ → Entry
+nextByte short bytes at = entryOf at (byte short (drop at bytes))
 
 -- A fault at a cursor, unless one was met before.
 abbrev pub stopped : ℕ → Cursor → Cursor

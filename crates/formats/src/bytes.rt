@@ -2,6 +2,7 @@
 use super::Cursor;
 use super::Entry;
 use super::Ladder;
+use super::reader::read_at;
 ghost use mathlib.Core.Path.{_≡_};
 ghost use Prim.Native.Nat.{_≤_};
 ghost use Rattle.semantics.specs.Reader.{byte as byteReader};
@@ -13,18 +14,7 @@ pub(crate) fn byte(s: &[u8], c: Cursor, short: u8) -> Entry
     ensures { λ r. ⌜ Yields (byteReader short) (now (s .entry)) c (r .cursor) (r .value) ⌝ }
 {
     match c {
-        Cursor::At(at) => {
-            if at < s.len() {
-                return Entry {
-                    cursor: Cursor::At(at + 1),
-                    value: s[at],
-                };
-            }
-            Entry {
-                cursor: Cursor::Fault(short),
-                value: 0,
-            }
-        }
+        Cursor::At(at) => read_at(s, at, short),
         Cursor::Fault(n) => Entry {
             cursor: Cursor::Fault(n),
             value: 0,
@@ -77,13 +67,15 @@ pub(crate) fn below(s: &[u8], c: Cursor, short: u8, fault: u8, n: u8) -> Entry
     }
 }
 
-// The answer at the end of the reading; `more` is the refusal where bytes are left.
+// The answer at the end of the reading; `more` is the refusal where a byte is left.
 pub(crate) fn finish(s: &[u8], c: Cursor, more: u8) -> Ladder
     ensures { λ r. ⌜ r ≡ finished more (now (s .entry)) c ⌝ }
 {
     match c {
         Cursor::At(at) => {
-            if at < s.len() {
+            let e = read_at(s, at, more);
+            let next = e.cursor;
+            if let Cursor::At(_) = next {
                 return Ladder::Refused(more);
             }
             Ladder::Accepted

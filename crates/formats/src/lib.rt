@@ -4,6 +4,7 @@ mod book;
 mod bytes;
 mod fields;
 mod question;
+mod reader;
 mod snapshot;
 
 ghost use mathlib.Core.Path.{_≡_};
