@@ -1,20 +1,10 @@
 // The bench program: reads book, snapshot and question from standard input, and prints the reply as one line.
 use libc::STDIN_FILENO;
-use libc::STDOUT_FILENO;
 use semantics::Reply;
 
-fn print(name: &[u8], n: u64) {
-    io::write_all(STDOUT_FILENO, name);
-    io::print_decimal(STDOUT_FILENO, n);
-}
-
 fn show(reply: Reply) {
-    print(b"refusal ", reply.refusal);
-    print(b" verdict ", reply.verdict);
-    print(b" facts ", reply.facts);
-    print(b" rounds ", reply.rounds);
-    print(b" lines ", reply.lines);
-    io::write_all(STDOUT_FILENO, b"\n");
+    report::reply(reply);
+    report::close();
 }
 
 fn answer(book: &[u8], snapshot: &[u8], question: &[u8]) -> Reply {
