@@ -9,6 +9,7 @@ pub mod Tracing
 pub mod Narrowing
 pub mod Grounding
 pub mod Seeking
+pub mod Masks
 pub mod Settling
 pub mod Complement
 pub mod Ranges

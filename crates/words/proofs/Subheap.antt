@@ -63,6 +63,18 @@ and-fuel (suc fuel) a b h e s =
 pub and-apart : (a b : ℕ) → bitAnd a b ≡ 0 → ¬ Shares a b
 and-apart a b e s = and-fuel a a b (omega arith) e s
 
+shared-fuel : (fuel a b : ℕ) → a ≤ fuel → ¬ (bitAnd a b ≡ 0) → Shares a b
+shared-fuel zero a b h n = let e : a ≡ 0 = omega arith in absurd (n (rw e (and-zero-l b)))
+shared-fuel (suc fuel) a b h n = step (ℕ-discrete (a % 2) 1) (ℕ-discrete (b % 2) 1) (λ m. shared-fuel fuel (a / 2) (b / 2) (omega arith) m)
+  where
+    step : Dec (a % 2 ≡ 1) → Dec (b % 2 ≡ 1) → (¬ (bitAnd (a / 2) (b / 2) ≡ 0) → Shares (a / 2) (b / 2)) → Shares a b
+    step (yes p) (yes q) more = odd-share a b p q
+    step (yes p) (no q) more = halves-share a b (more (λ z. n (omega (arith, and-step a b))))
+    step (no p) d more = halves-share a b (more (λ z. n (omega (arith, and-step a b))))
+
+pub and-shared : (a b : ℕ) → ¬ (bitAnd a b ≡ 0) → Shares a b
+and-shared a b n = shared-fuel a a b (omega arith) n
+
 -- ---- what the test's answer says of the conjunction
 
 pub told-apart : {r : Bool} {a b : ℕ} → Told r (Shares a b) → r ≡ false → bitAnd a b ≡ 0

@@ -77,7 +77,7 @@ put-requires c κs =
     let s = c .before .before .before .before .before .before .before .before .before .before in
     let l = c .before .before .before .before .before .before .before .loop in
     let taken = c .before .before .before .before .if1 .taken in
-    (taken, line-low (s .args .table .now) (s .args .at) (s .args .space .now) (s .pre .1) (l .i) (l .space) (omega arith) (l .inv) taken .1)
+    (omega (arith, taken), line-low (s .args .table .now) (s .args .at) (s .args .space .now) (s .pre .1) (l .i) (l .space) (omega arith) (l .inv) (omega (arith, taken)) .1)
 
 -- src/lib.rt:90:9
 add-i : tie.Need-add-i Inv-loop μ-loop
@@ -94,7 +94,7 @@ loop-again c =
     let l = c .before .before .before .loop in
     ⊎-elim
     (λ w. rw (w .8)
-    (gathered-more (s .args .table .now) (s .args .at) (s .args .space .now) (s .pre .1) (l .i) (l .space) (omega arith) (l .inv) (w .0 .taken) (w .5 .last .0) (w .5 .ensures)))
+    (gathered-more (s .args .table .now) (s .args .at) (s .args .space .now) (s .pre .1) (l .i) (l .space) (omega arith) (l .inv) (omega (arith, w .0 .taken)) (w .5 .last .0) (w .5 .ensures)))
     (λ w. rw (w .1) (gathered-free (s .args .table .now) (s .args .at) (s .args .space .now) (s .pre .1) (l .i) (l .space) (omega arith) (l .inv) (omega (arith, w .0 .left))))
     (c .if1 .came)
 
