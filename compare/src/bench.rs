@@ -7,8 +7,9 @@ use crate::hostile::{self, Hostile};
 use crate::input::Input;
 use crate::random::Dice;
 use crate::shapes::{self, Shape};
-use reference::api;
+use reference::api::{self, Reply};
 use std::io;
+use std::path::Path;
 use std::time::{Duration, Instant};
 
 /// A pool is run again and again for about this long, but at least once.
@@ -51,6 +52,15 @@ pub fn pools() -> Vec<(String, Input)> {
     pools
 }
 
+/// The longest table that may be lent, and always-true pools for it.
+const MOST_LINES: usize = 65_535;
+const LONG_SIZES: [usize; 3] = [8, 12, 15];
+
+fn always_true(size: usize) -> Input {
+    let shape = shapes::anything(&mut Dice::new(1, 0), size);
+    Input::new(&shape.book, &shape.heap, &shape.query)
+}
+
 /// Kept apart from their callers, so that instructions can be counted in them.
 #[inline(never)]
 pub fn measured_proved(input: &Input) -> u64 {
@@ -62,19 +72,35 @@ pub fn measured_reference(input: &Input) -> u64 {
     api::desk_engine(&input.book, &input.snapshot, &input.question) as u64
 }
 
-pub fn run() -> io::Result<()> {
+/// All pools, or those whose names begin with one of these words.
+pub fn run(names: &[&str]) -> io::Result<()> {
+    let asked = |pool: &str| names.is_empty() || names.iter().any(|name| pool.starts_with(name));
     println!("Both programs have a table of 1,024 lines here, as the desk's entry does.");
     println!();
     println!("| pool | reply | facts | rounds | reference / proved | proved µs | reference µs |");
     println!("|-|-|-|-|-|-|-|");
-    for (name, input) in pools() {
-        row(&name, &input);
+    for (name, input) in pools().iter().filter(|(name, _)| asked(name)) {
+        row(name, input);
+    }
+    println!();
+    println!("In a table of 65,535 lines, the program `longest` as a process beside the reference as a call:");
+    println!();
+    println!("| pool | reply | facts | rounds | reference / proved | proved ms | reference ms |");
+    println!("|-|-|-|-|-|-|-|");
+    for size in LONG_SIZES {
+        let name = format!("always-true-{size}");
+        if asked(&name) {
+            long_row(&name, &always_true(size))?;
+        }
     }
     println!();
     println!("| hostile input | reply | facts | rounds | proved ms | |");
     println!("|-|-|-|-|-|-|");
-    for hostile in hostile::kept()? {
-        hostile_row(&hostile);
+    for hostile in hostile::kept()?
+        .iter()
+        .filter(|hostile| asked(&hostile.name))
+    {
+        hostile_row(hostile);
     }
     Ok(())
 }
@@ -92,6 +118,46 @@ fn row(name: &str, input: &Input) {
         proved.as_secs_f64() * 1e6,
         reference.as_secs_f64() * 1e6,
     );
+}
+
+/// The fastest run of each in the longest table. The program's time has its
+/// start and end in it.
+fn long_row(name: &str, input: &Input) -> io::Result<()> {
+    let program = Path::new(env!("CARGO_MANIFEST_DIR")).join("../target/bin/longest");
+    let bytes = input.bench_bytes();
+    let expected = reference_long(input);
+    let (mut proved, mut reference) = (Duration::MAX, Duration::MAX);
+    for _ in 0..LONG_RUNS {
+        let start = Instant::now();
+        let printed = desk::bench_program(&program, &[&bytes])?;
+        proved = proved.min(start.elapsed());
+        if printed.text != api::bench_line(expected).into_bytes() {
+            return Err(io::Error::other(format!("{name}: another reply")));
+        }
+        reference = reference.min(time(|| reference_long(input).facts as u64));
+    }
+    println!(
+        "| {name} | {} {} | {} | {} | {:.1} | {:.2} | {:.2} |",
+        expected.refusal,
+        expected.verdict,
+        expected.facts,
+        expected.rounds,
+        reference.as_secs_f64() / proved.as_secs_f64(),
+        proved.as_secs_f64() * 1e3,
+        reference.as_secs_f64() * 1e3,
+    );
+    Ok(())
+}
+
+const LONG_RUNS: usize = 5;
+
+fn reference_long(input: &Input) -> Reply {
+    let Input {
+        book,
+        snapshot,
+        question,
+    } = input;
+    api::decide(book, snapshot, question, MOST_LINES, 3 * MOST_LINES).reply
 }
 
 /// The fastest run of each. They take turns, so that what else the machine

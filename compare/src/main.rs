@@ -26,7 +26,7 @@ use std::time::{Duration, SystemTime, UNIX_EPOCH};
 
 const USAGE: &str = "usage: compare [--seed N] [--long [COUNT | SECONDSs]] [--thin N]
                [--pool NAME] [--program PATH | --no-program]
-       compare --bench
+       compare --bench [POOL...]
        compare --names
        compare --once POOL proved|reference
        compare --input BOOK SNAPSHOT QUESTION [UNFOLDING]   (in hex, - for none)
@@ -50,7 +50,7 @@ fn main() -> ExitCode {
     let words: Vec<String> = std::env::args().skip(1).collect();
     let words: Vec<&str> = words.iter().map(String::as_str).collect();
     let done = match words.split_first() {
-        Some((&"--bench", [])) => bench::run().is_ok(),
+        Some((&"--bench", names)) => bench::run(names).is_ok(),
         Some((&"--names", [])) => {
             bench::pools()
                 .iter()
