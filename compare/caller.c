@@ -10,11 +10,7 @@
 #include <stdlib.h>
 #include <string.h>
 
-uint64_t desk_decide(const uint8_t *book, size_t book_len, const uint8_t *snapshot,
-                     size_t snapshot_len, const uint8_t *question, size_t question_len);
-uint64_t desk_check(const uint8_t *book, size_t book_len, const uint8_t *snapshot,
-                    size_t snapshot_len, const uint8_t *question, size_t question_len,
-                    const uint8_t *unfolding, size_t unfolding_len);
+#include "desk.h"
 
 enum { MOST_INPUT = 4096, MOST_UNFOLDING = 24576, STACK = 1 << 20, PAINT = 0xA5 };
 

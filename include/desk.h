@@ -1,17 +1,24 @@
 /* The desk's two entries. Link target/staticlib/libdesk.a, which `rt staticlib desk` writes.
  *
- * Each entry gives one number: twice the refusal plus a second number.
- *   odd                 refusal 0, and the second number is 1
- *   0                   refusal 0, and the second number is 0
- *   2 n, n from 1 on    refusal n; then the second number is 0
- * So `r >> 1` is the refusal and `r & 1` the second number.
+ * Each entry gives one number: the refusal doubled, and a second number added to it. So `r >> 1` is the refusal and `r & 1` the second
+ * number, which is 0 on a refusal:
+ *   0                       no refusal, second number 0
+ *   1                       no refusal, second number 1
+ *   2, 4, 6 and so on       refusal 1, 2, 3 and so on
  *
- * Refusals: 1 the book ends too soon; 2 a count in the book is out of range; 3 a byte in the book names nothing, or a cell's address is
- * nil; 4 bytes follow the book; 5 the snapshot ends too soon; 6 a count in the snapshot is out of range; 7 an address is 0 or not above
- * the one before; 8 bytes follow the snapshot; 9 the question does not match; 11 there are more facts than 1,024.
+ * Refusals of both entries, the first fault that reading meets:
+ *   1 the book is too short                          5 the snapshot is too short
+ *   2 a count in the book is out of its range        6 a count in the snapshot is out of its range
+ *   3 a byte in the book is no name                  7 an address is 0, or the addresses do not ascend
+ *   4 the book is too long                           8 the snapshot is too long
+ *   9 the question is not one about this book
+ * Of desk_decide alone:
+ *  11 there are more than 1,024 facts
+ * README.md says what to do about each. 10 is not given here: the entries bring their own memory.
  *
- * Nothing is allocated, nothing that is lent is changed, and no byte outside a block is read. A block of no bytes may have any pointer
- * that is not null. The entries may be called from several threads at once: they share nothing.
+ * Nothing is allocated, nothing that is lent is changed or kept, and no byte outside a block is read. A block of no bytes may have any
+ * pointer that is not null. The entries share nothing, so several threads may call them at once. On the stack desk_decide has 32 KiB and
+ * desk_check 24 KiB of words, and each some more for its calls (compare/memory.sh measures it).
  */
 #ifndef DESK_H
 #define DESK_H
@@ -19,13 +26,13 @@
 #include <stddef.h>
 #include <stdint.h>
 
-/* Second number: 1 the heap of the snapshot fits the question, 0 it does not. */
+/* Second number: 1 if the whole heap of the snapshot fits the question, 0 if it does not. */
 uint64_t desk_decide(const uint8_t *book, size_t book_len,
                      const uint8_t *snapshot, size_t snapshot_len,
                      const uint8_t *question, size_t question_len);
 
-/* Second number: 1 the unfolding is taken, 0 it is not. The unfolding's words come as bytes, eight to a word, lowest first; more than
- * 24,576 bytes are not taken. */
+/* Second number: 1 if the unfolding is taken, 0 if it is not. The unfolding is lines of three 64-bit words, each word as eight bytes from
+ * the lowest on, so 24 bytes to a line. Bytes that are no whole lines are not taken, nor are more than 24,576 (1,024 lines). */
 uint64_t desk_check(const uint8_t *book, size_t book_len,
                     const uint8_t *snapshot, size_t snapshot_len,
                     const uint8_t *question, size_t question_len,

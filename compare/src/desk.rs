@@ -32,7 +32,7 @@ extern "C" {
     ) -> u64;
 }
 
-/// Twice the refusal plus the verdict, from 1,024 lines of the entry's own.
+/// Twice the refusal plus the verdict, on the entry's own 1,024 lines.
 pub fn decide(book: &[u8], snapshot: &[u8], question: &[u8]) -> u64 {
     // Safety: each pointer is to as many bytes as the length after it says;
     // the entry reads them and keeps nothing.

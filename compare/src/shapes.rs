@@ -40,7 +40,7 @@ pub fn places(dice: &mut Dice, count: usize) -> Vec<u32> {
         1 => ascending(start).collect(),
         // Up to the largest value there is.
         2 => ascending(u32::MAX - (count as u32).saturating_sub(1) * step).collect(),
-        // The low half keeps them apart.
+        // The low eight bits keep them apart.
         _ => (0..count as u32)
             .map(|index| (dice.value() << 8) + index + 1)
             .collect(),

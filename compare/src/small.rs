@@ -1,6 +1,6 @@
 //! Every small pool: up to three records with one field, and up to two with
 //! two fields for books that have such, each with every question about its
-//! values.
+//! values, or some of them where a predicate has more than two arguments.
 
 use crate::books;
 use crate::compare::Comparer;

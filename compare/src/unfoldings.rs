@@ -248,8 +248,8 @@ fn every_order(comparer: &mut Comparer, input: &Input, whole: &[Line]) {
             let mut swapped = whole.to_vec();
             swapped.swap(one, other);
             comparer.check(input, &bytes(&swapped));
+            // The lines in their places again, with their numbers exchanged in the calls.
             exchange(&mut swapped, one, other);
-            swapped.swap(one, other);
             comparer.check(input, &bytes(&swapped));
             let mut exchanged = whole.to_vec();
             exchange(&mut exchanged, one, other);

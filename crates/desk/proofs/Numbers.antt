@@ -1,14 +1,14 @@
 -- The numbers of the two entries.
-use mathlib.Core.Path.{_≡_, refl, sym, ap, ap₂, _∙_}
+use mathlib.Core.Path.{_≡_, ap}
 use mathlib.Core.List.{List}
-use Prim.Native.Nat.{ℕ, _+_, _*_, _≤_, _<_}
+use Prim.Native.Nat.{ℕ, _+_, _*_, _≤_}
 use native.Mathlib.Omega.{arith}
 use lib.ListN.{length, take}
-use Rattle.semantics.specs.Contract.{Answers, Decided, Checked, DeskChecked, deskNumber}
+use Rattle.semantics.specs.Contract.{Answers, Decided, Checked, DeskChecked}
 use Rattle.semantics.specs.declared.Reply.{Reply}
 use Rattle.semantics.specs.declared.CheckReply.{CheckReply}
 use Rattle.semantics.proofs.FormatsFacts.{ladder-number}
-use Rattle.desk.specs.Words.{Loads, Loaded}
+use Rattle.desk.specs.Words.{Loaded}
 use Rattle.desk.proofs.Takes.{desk-takes}
 
 pub loaded-within : {bytes words : List ℕ} {n : ℕ} → Loaded bytes words n → n ≤ length words

@@ -1,8 +1,8 @@
 -- What the check's entry takes is what the check takes of the loaded words.
 use mathlib.Core.Path.{_≡_, refl, sym, ap, ap₂, _∙_}
 use mathlib.Core.Logic.{_↔_}
-use mathlib.Core.List.{List, [], _∷_, _++_, List·Memᴰ, List·Memᴰ·head, List·Memᴰ·tail}
-use Prim.Native.Nat.{ℕ, zero, suc, _+_, _*_, _^_, _/_, _%_, _≤_, _<_}
+use mathlib.Core.List.{List, [], _∷_, List·Memᴰ·head, List·Memᴰ·tail}
+use Prim.Native.Nat.{ℕ, zero, suc, _*_, _^_, _/_, _<_}
 use native.Mathlib.Omega.{arith}
 use native.Mathlib.Nat.{pow-suc}
 use lib.ListN.{length, take, drop, length-append}
@@ -11,7 +11,7 @@ use Rattle.semantics.specs.Lists.{_∈_, digits, digitsOf}
 use Rattle.semantics.specs.Formats.{Input}
 use Rattle.semantics.specs.Contract.{CertificateInput, DeskTakes, bytesOf}
 use Rattle.semantics.proofs.Digits.{digitsOf-length}
-use Rattle.desk.specs.Words.{Loads, Loaded}
+use Rattle.desk.specs.Words.{Loaded}
 
 -- a word is the number of its bytes
 word-back : (n w : ℕ) → w < 256 ^ n → digits 256 (digitsOf 256 n w) ≡ w

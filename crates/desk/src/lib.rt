@@ -53,7 +53,7 @@ fn load(bytes: &[u8], words: &mut [u64; 3072]) -> usize
     n
 }
 
-// The engine with 1,024 lines of the entry's own. Twice the refusal plus 1 if the question fits.
+// The engine, on a table of 1,024 lines that no one else sees. Twice the refusal plus 1 if the question fits.
 #[no_mangle]
 pub extern "C" fn desk_decide(book: &[u8], snapshot: &[u8], question: &[u8]) -> u64
     ensures { λ r. ⌜ DeskDecided (now (book .entry)) (now (snapshot .entry)) (now (question .entry)) r ⌝ }
@@ -64,7 +64,7 @@ pub extern "C" fn desk_decide(book: &[u8], snapshot: &[u8], question: &[u8]) -> 
     2 * reply.refusal + reply.verdict
 }
 
-// The check, with the unfolding's words as bytes, eight to a word, lowest first. Twice the refusal plus 1 if it is taken.
+// The check. The unfolding's words come as bytes, the lowest byte of each first. Twice the refusal plus 1 if it is taken.
 #[no_mangle]
 pub extern "C" fn desk_check(book: &[u8], snapshot: &[u8], question: &[u8], lines: &[u8]) -> u64
     ensures { λ r. ⌜ DeskChecked (now (book .entry)) (now (snapshot .entry)) (now (question .entry)) (now (lines .entry)) r ⌝ }

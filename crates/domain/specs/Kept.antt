@@ -1,10 +1,10 @@
 -- What the crate promises: the domain of an input in a lent array, and values placed in it.
 use mathlib.Core.List.{List}
 use mathlib.Core.Path.{_≡_}
-use Prim.Native.Nat.{ℕ, _≤_, _<_}
-use lib.ListN.{length, getD, take}
+use Prim.Native.Nat.{ℕ, _≤_}
+use lib.ListN.{length, take}
 use Rattle.semantics.specs.Lists.{_∈_, Ascending}
-use Rattle.semantics.specs.Formats.{Input, WellFormedInput}
+use Rattle.semantics.specs.Formats.{Input}
 use Rattle.semantics.specs.Domain.{mostValues}
 use Rattle.semantics.specs.Contract.{domainOf}
 

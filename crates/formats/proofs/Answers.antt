@@ -9,7 +9,6 @@ use Rattle.semantics.specs.Formats.{ladder}
 use Rattle.words.specs.Block.{inputIn}
 use Rattle.formats.specs.Refusal.{Read}
 use Rattle.formats.specs.Refusal.Read.{refuses, accepts}
-use Rattle.formats.specs.declared.Ladder.{Ladder}
 use Rattle.formats.specs.declared.Ladder.the-variants.{Accepted, Refused}
 
 apart : (n : ℕ) → Accepted ≡ Refused n → ⊥

@@ -1,7 +1,7 @@
 -- Readers one after the other, from cursor to cursor: what each yields makes what the chain yields. A fault on the way stays to the end,
 -- since reading on from a fault is that fault.
 use mathlib.Core.Bool.{Bool, true, false}
-use mathlib.Core.Path.{_≡_, refl, sym, ap, _∙_}
+use mathlib.Core.Path.{_≡_, refl, ap, _∙_}
 use mathlib.Core.List.{List}
 use Prim.Native.Nat.{ℕ}
 use Rattle.semantics.specs.Reader.{Got, got, fault, Reader, onward, _>>=_, give, ensure}

@@ -1,16 +1,15 @@
 -- Pure conditions, points-to atoms and calls: their parts, read one after the other into one place of the block, make the whole.
-use mathlib.Core.Path.{_≡_, refl, sym, ap, _∙_}
-use mathlib.Core.Logic.{inl, inr}
+use mathlib.Core.Path.{_≡_, sym, ap, _∙_}
+use mathlib.Core.Logic.{inl}
 use mathlib.Core.List.{List, map}
 use Prim.Native.Nat.{ℕ, _+_, _*_, _≤_, _<_}
 use native.Mathlib.Omega.{arith}
-use lib.ListN.{length, getD}
-use Rattle.semantics.specs.RuleSet.{Term, Pure, PointsTo, Call, Rule}
+use lib.ListN.{getD}
 use Rattle.semantics.specs.Reader.{times}
-use Rattle.semantics.specs.Formats.{term, call}
+use Rattle.semantics.specs.Formats.{term}
 use Rattle.words.proofs.Tabulate.{tabulate-map}
-use Rattle.words.specs.Block.{tabulate, entries, termIn, kindIn, pureIn, atomIn, callIn}
-use Rattle.formats.specs.Layout.{Layout, Kept, Fills, many, countLayout, nameLayout, termLayout, pureLayout, atomLayout, Header, aritiesIn, callLayout}
+use Rattle.words.specs.Block.{tabulate, entries, termIn}
+use Rattle.formats.specs.Layout.{Fills, many, countLayout, nameLayout, termLayout, pureLayout, atomLayout, Header, aritiesIn, callLayout}
 use Rattle.formats.specs.declared.Cursor.{Cursor}
 use Rattle.formats.proofs.Heading.{arities-length, name-small, arity-few, arity-read}
 use Rattle.formats.proofs.Chain.{chain, done, turn}

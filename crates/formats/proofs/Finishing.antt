@@ -3,7 +3,7 @@ use mathlib.Core.Path.{_≡_, refl, ap, _∙_}
 use mathlib.Core.List.{List, [], _∷_}
 use Prim.Native.Nat.{ℕ}
 use lib.ListN.{length, drop}
-use Rattle.semantics.specs.Reader.{Got, got, fault, Reader, Result, accepted, refused, all}
+use Rattle.semantics.specs.Reader.{Got, got, Reader, accepted, refused, all}
 use Rattle.semantics.specs.Formats.{readRuleSet, readSnapshot, readQuery, ladder}
 use Rattle.words.specs.Block.{ruleSetIn, heapIn, inputIn}
 use Rattle.formats.specs.Cursor.{upto, Yields}

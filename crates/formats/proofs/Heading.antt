@@ -1,12 +1,11 @@
 -- The arities stand below place 16: what is written from there on leaves them alone. What a block says of predicate p is what the list of
 -- its arities says.
-use mathlib.Core.Path.{_≡_, refl, sym, ap, _∙_}
-use mathlib.Core.Logic.{inl, inr}
+use mathlib.Core.Path.{_≡_, sym, _∙_}
+use mathlib.Core.Logic.{inl}
 use mathlib.Core.List.{List}
 use Prim.Native.Nat.{ℕ, _+_, _≤_, _<_}
 use native.Mathlib.Omega.{arith}
 use lib.ListN.{length, getD}
-use Rattle.words.specs.Block.{tabulate}
 use Rattle.words.proofs.Tabulate.{tabulate-length, tabulate-at}
 use Rattle.formats.specs.Layout.{Kept, Fills, Header, aritiesIn, nameLayout, callLayout, ruleLayout}
 use Rattle.formats.specs.declared.Cursor.{Cursor}

@@ -1,15 +1,15 @@
 -- Records: address, count and fields make a record, and records one after the other, each above the one before, make the heap.
 use mathlib.Core.Path.{_≡_, refl, sym, ap, _∙_}
-use mathlib.Core.Logic.{inl, inr}
-use mathlib.Core.List.{List, [], _∷_, _++_}
-use Prim.Native.Nat.{ℕ, zero, suc, _+_, _*_, _≤_, _<_}
+use mathlib.Core.Logic.{inl}
+use mathlib.Core.List.{List, _∷_}
+use Prim.Native.Nat.{ℕ, zero, suc, _+_, _*_, _≤_}
 use native.Mathlib.Numerals.{add-one}
 use native.Mathlib.Omega.{arith}
-use lib.ListN.{length, getD}
+use lib.ListN.{getD}
 use Rattle.semantics.specs.Heap.{Record, Heap}
-use Rattle.semantics.specs.Reader.{Got, got, fault, Reader, onward, _>>=_, give, counted}
+use Rattle.semantics.specs.Reader.{Got, got, fault, onward, _>>=_, give, counted}
 use Rattle.semantics.specs.Formats.{value, address, records, snapshot}
-use Rattle.words.specs.Block.{tabulate, entries, recordIn, heapIn}
+use Rattle.words.specs.Block.{tabulate, recordIn, heapIn}
 use Rattle.words.proofs.Tabulate.{tabulate-more}
 use Rattle.formats.specs.Cursor.{Yields}
 use Rattle.formats.specs.HeapLayout.{valueLayout, addressLayout, sizeLayout, record-above, recordLayout, recordsLayout}

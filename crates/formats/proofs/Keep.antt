@@ -2,13 +2,13 @@
 use mathlib.Core.Path.{_≡_, refl, sym, ap, _∙_}
 use mathlib.Core.Logic.{_⊎_, inl, inr, ⊎-elim, _≢_}
 use mathlib.Core.List.{List}
-use Prim.Native.Nat.{ℕ, _+_, _*_, _≤_, _<_}
+use Prim.Native.Nat.{ℕ, _+_, _≤_, _<_}
 use native.Mathlib.Omega.{arith}
 use lib.ListN.{length, getD, set, length-set}
 use lib.Seq.{getD-set-same, getD-set-other}
 use Rattle.semantics.specs.Reader.{Reader}
 use Rattle.formats.specs.Cursor.{Yields}
-use Rattle.formats.specs.Layout.{Layout, Kept, Fills, single}
+use Rattle.formats.specs.Layout.{Kept, Fills, single}
 use Rattle.formats.specs.declared.Cursor.{Cursor}
 use Rattle.formats.proofs.Chain.{become}
 

@@ -1,22 +1,18 @@
 -- Each kind of entry looks at no place but its own and, for calls and rules, the arities below 16.
-use mathlib.Core.Path.{_≡_, refl, sym, ap, _∙_}
-use mathlib.Core.List.{List, map}
+use mathlib.Core.Path.{_≡_, ap}
+use mathlib.Core.List.{List}
 use Prim.Native.Nat.{ℕ, _+_, _*_, _≤_, _<_}
 use native.Mathlib.Omega.{arith}
-use lib.ListN.{length, getD}
-use Rattle.semantics.specs.RuleSet.{Term, Pure, PointsTo, Call, Rule}
-use Rattle.semantics.specs.Formats.{named, term}
-use Rattle.words.specs.Block.{tabulate, entries, termIn, kindIn, pureIn, atomIn, callIn, ruleIn}
+use lib.ListN.{getD}
+use Rattle.semantics.specs.Formats.{term}
+use Rattle.words.specs.Block.{tabulate, entries, termIn, callIn, ruleIn}
 use Rattle.words.proofs.Tabulate.{tabulate-same}
-use Rattle.formats.specs.Cursor.{rangedByte, Within, Names}
-use Rattle.formats.specs.Layout.{Layout, Any, countLayout, nameLayout, termLayout, pureLayout, atomLayout, CallSized, callLayout, RuleSized, ruleLayout}
+use Rattle.formats.specs.Cursor.{rangedByte, Within}
+use Rattle.formats.specs.Layout.{Any, countLayout, termLayout, pureLayout, atomLayout, CallSized, callLayout, RuleSized, ruleLayout}
 use Rattle.formats.proofs.Section.{Local, single-local, many-local}
 
 pub count-local : (least most : ℕ) → Local (countLayout least most)
 count-local least most = single-local (rangedByte 1 2 least most) (λ v. v) (Within least most)
-
-pub name-local : (n : ℕ) → Local (nameLayout n)
-name-local n = single-local (named n) (λ v. v) (Names n)
 
 pub term-local : (n : ℕ) → Local (termLayout n)
 term-local n = single-local (term n) termIn Any

@@ -1,13 +1,12 @@
 -- Bytes that name something: terms and kinds, as read and as they lie in a block.
-use mathlib.Core.Bool.{Bool, true, false}
-use mathlib.Core.Path.{_≡_, refl, sym, ap, _∙_}
+use mathlib.Core.Path.{_≡_, refl}
 use mathlib.Core.List.{List, [], _∷_}
 use Prim.Native.Nat.{ℕ, zero, suc, _≤_, _<_}
 use native.Mathlib.Omega.{arith}
-use lib.Dec.{ltb, eqb}
+use lib.Dec.{ltb}
 use borrow.Author.Tests.{lt-ltb, le-ltb, eq-eqb, ne-eqb}
 use Rattle.semantics.specs.RuleSet.{Term, var, fixed}
-use Rattle.semantics.specs.Reader.{Reader, onward, give, byte, ensure}
+use Rattle.semantics.specs.Reader.{onward, give, byte}
 use Rattle.semantics.specs.Formats.{named, termOf, term, kind}
 use Rattle.words.specs.Block.{termIn, kindIn}
 use Rattle.formats.specs.Cursor.{Yields, stopped}

@@ -1,8 +1,8 @@
 -- A query: the predicate's name, a count that must be its arity, and as many values.
 use mathlib.Core.Path.{_≡_, refl, sym, ap, _∙_}
-use mathlib.Core.Logic.{inl, inr}
+use mathlib.Core.Logic.{inl}
 use mathlib.Core.List.{List, [], _∷_}
-use Prim.Native.Nat.{ℕ, _+_, _*_, _≤_, _<_}
+use Prim.Native.Nat.{ℕ, _+_, _<_}
 use native.Mathlib.Decide.{decLt}
 use native.Mathlib.Omega.{arith}
 use borrow.Author.Tests.{le-leb, lt-leb, eq-eqb, ne-eqb}
@@ -11,7 +11,6 @@ use lib.Seq.{getD-set-same, getD-set-other}
 use lib.Dec.{leb, ltb, eqb}
 use Rattle.semantics.specs.Reader.{Reader, onward, _>>=_, byte, ensure, times}
 use Rattle.semantics.specs.Formats.{value, query}
-use Rattle.words.specs.Block.{entries}
 use Rattle.formats.specs.Cursor.{Yields, rangedByte, byteBelow, Ranged, Below}
 use Rattle.formats.specs.HeapLayout.{valueLayout}
 use Rattle.formats.specs.Layout.{Fills, many, Header, aritiesIn}

@@ -4,25 +4,25 @@ use mathlib.Core.Path.{_≡_, refl, sym, ap, _∙_}
 use mathlib.Core.Logic.{inl, inr}
 use mathlib.Core.Bool.{Bool, true, false}
 use mathlib.Core.List.{List, [], _∷_}
-use Prim.Native.Nat.{ℕ, _+_, _-_, _*_, _≤_, _<_}
+use Prim.Native.Nat.{ℕ, _+_, _-_, _≤_}
 use native.Mathlib.Decide.{decLe}
 use borrow.Author.Tests.{le-leb, lt-leb}
 use lib.Dec.{leb}
 use native.Mathlib.Omega.{arith}
-use lib.ListN.{length, getD}
-use Rattle.semantics.specs.RuleSet.{Pure, PointsTo, Call, Rule}
-use Rattle.semantics.specs.Reader.{Reader, onward, _>>=_, byte, ensure, times, counted}
+use lib.ListN.{getD}
+use Rattle.semantics.specs.RuleSet.{Rule}
+use Rattle.semantics.specs.Reader.{Reader, onward, _>>=_, byte, ensure, times}
 use Rattle.semantics.specs.Formats.{named, pure, atom, call, body}
-use Rattle.words.specs.Block.{tabulate, pureIn, atomIn, callIn, ruleIn}
+use Rattle.words.specs.Block.{ruleIn}
 use Rattle.formats.specs.Cursor.{Yields, rangedByte}
-use Rattle.formats.specs.Layout.{Layout, Kept, Fills, many, countLayout, nameLayout, pureLayout, atomLayout, callLayout, Header, aritiesIn, RuleSized, Body, ruleLayout}
+use Rattle.formats.specs.Layout.{Layout, Kept, Fills, many, countLayout, nameLayout, pureLayout, atomLayout, callLayout, Header, aritiesIn, Body, ruleLayout}
 use Rattle.formats.specs.declared.Cursor.{Cursor}
 use Rattle.formats.proofs.Heading.{arities-length, arities-kept, arity-few, arity-read}
 use Rattle.formats.proofs.Chain.{chain, done, become, alike, turn}
 use Rattle.formats.proofs.Counting.{counted-read}
 use Rattle.formats.proofs.Keep.{kept-both}
 use Rattle.formats.proofs.Locals.{pure-local, atom-local}
-use Rattle.formats.proofs.Section.{Local, pass, many-local}
+use Rattle.formats.proofs.Section.{pass, many-local}
 
 module _ (n at : ℕ) {bytes : List ℕ} {c c₁ c₂ c₃ c₄ c₅ : Cursor} {b b₁ b₂ b₃ b₄ b₅ : List ℕ}
     (count₁ : Fills (countLayout 0 8) (at + 2) bytes c b b₁ c₁)

@@ -1,15 +1,15 @@
 -- Entries side by side in a block. An entry that lies apart from what is written stays what it is, so that a loop that fills entry after
 -- entry keeps what it promises: it has filled `many k` of them.
-use mathlib.Core.Path.{_≡_, refl, sym, ap, _∙_}
+use mathlib.Core.Path.{_≡_, sym, ap, _∙_}
 use mathlib.Core.Logic.{_⊎_, inl, inr, ⊎-elim}
 use mathlib.Core.List.{List, [], _∷_, _++_}
-use Prim.Native.Nat.{ℕ, zero, suc, _+_, _*_, _≤_, _<_}
+use Prim.Native.Nat.{ℕ, _+_, _*_, _≤_, _<_}
 use native.Mathlib.Nat.{mul-suc, mul-le-mul-left}
 use native.Mathlib.Numerals.{add-one}
 use native.Mathlib.Omega.{arith}
 use native.Mathlib.Decide.{decLt}
-use lib.ListN.{length, getD}
-use Rattle.semantics.specs.Reader.{Reader, times}
+use lib.ListN.{getD}
+use Rattle.semantics.specs.Reader.{Reader}
 use Rattle.words.specs.Block.{tabulate}
 use Rattle.words.proofs.Tabulate.{tabulate-more, tabulate-same}
 use Rattle.formats.specs.Cursor.{Yields}

@@ -1,5 +1,5 @@
--- Walks by hand of functions that ask nothing and write to nothing: how such a walk begins, what a call hands back in it, and what is owed at
--- the return. Of a parameter nothing is owed there: whoever lends bytes keeps them.
+-- Walks by hand of functions that ask nothing and write to nothing: how such a walk begins, what a call hands back in it, and what is owed
+-- at the return. Of a parameter nothing is owed there: whoever lends bytes keeps them.
 use mathlib.Core.Path.{_≡_, sym, subst}
 use mathlib.Core.List.{List, [], _∷_}
 use Prim.Native.Nat.{ℕ}

@@ -1,19 +1,17 @@
 -- The whole rule set: the arities and the rules, each after its count.
-use mathlib.Core.Bool.{Bool, true, false}
 use mathlib.Core.Path.{_≡_, refl, sym, ap, fun-ext, _∙_}
 use mathlib.Core.Logic.{inl, inr}
 use mathlib.Core.List.{List, [], _∷_}
-use Prim.Native.Nat.{ℕ, _+_, _*_, _≤_, _<_}
+use Prim.Native.Nat.{ℕ, _*_, _<_}
 use native.Mathlib.Omega.{arith}
 use borrow.Author.Tests.{le-leb}
-use lib.ListN.{length, getD}
+use lib.ListN.{getD}
 use lib.Dec.{leb}
-use Rattle.semantics.specs.RuleSet.{Rule, RuleSet}
-use Rattle.semantics.specs.Reader.{Got, got, fault, Reader, onward, _>>=_, byte, ensure, times, counted}
-use Rattle.semantics.specs.Formats.{arguments, predicates, rule, ruleSet}
-use Rattle.words.specs.Block.{tabulate, entries, ruleIn, ruleSetIn}
+use Rattle.semantics.specs.Reader.{Reader, onward, ensure, times}
+use Rattle.semantics.specs.Formats.{arguments, predicates, rule}
+use Rattle.words.specs.Block.{entries, ruleSetIn}
 use Rattle.formats.specs.Cursor.{Yields, rangedByte}
-use Rattle.formats.specs.Layout.{Kept, Fills, many, countLayout, ruleLayout, Header, aritiesIn, RuleSetFills}
+use Rattle.formats.specs.Layout.{Fills, many, countLayout, ruleLayout, Header, aritiesIn, RuleSetFills}
 use Rattle.formats.specs.declared.Cursor.{Cursor}
 use Rattle.formats.proofs.Heading.{arities-same, header-same, arities-kept, header-kept}
 use Rattle.formats.proofs.Chain.{assoc, chain, done, become, alike, turn}

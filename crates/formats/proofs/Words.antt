@@ -1,12 +1,12 @@
 -- Numbers of four bytes.
-use mathlib.Core.Path.{_≡_, refl, sym, ap, _∙_}
+use mathlib.Core.Path.{_≡_}
 use mathlib.Core.List.{List, [], _∷_}
 use Prim.Native.Nat.{ℕ, _+_, _*_, _≤_, _<_}
 use borrow.Author.Tests.{lt-ltb, le-ltb}
 use lib.Dec.{ltb}
 use native.Mathlib.Omega.{arith}
 use Rattle.semantics.specs.Lists.{digits}
-use Rattle.semantics.specs.Reader.{give, byte, times, word}
+use Rattle.semantics.specs.Reader.{give, byte, word}
 use Rattle.semantics.specs.Formats.{asRead, value, address}
 use Rattle.formats.specs.Cursor.{Yields, stopped}
 use Rattle.formats.specs.declared.Cursor.{Cursor}

@@ -1,8 +1,6 @@
 -- How the entries of a snapshot and of a query are read and where they lie in a block of numbers.
-use mathlib.Core.List.{List}
-use mathlib.Core.Path.{_≡_}
 use Prim.Native.Nat.{ℕ, _+_, _≤_}
-use lib.ListN.{length, getD}
+use lib.ListN.{getD}
 use Rattle.semantics.specs.Heap.{Record, Heap}
 use Rattle.semantics.specs.Reader.{Reader, _>>=_, give, counted}
 use Rattle.semantics.specs.Formats.{value, address, records}

@@ -1,7 +1,6 @@
 -- The three shapes of the house book H, written out: segment (predicate 0), ring (1), and queue with free chain (2).
-use mathlib.Core.List.{List, [], _∷_}
-use Prim.Native.Nat.{ℕ}
-use Rattle.semantics.specs.RuleSet.{Term, var, fixed, Kind, equal, Pure, PointsTo, Call, Rule, RuleSet}
+use mathlib.Core.List.{[], _∷_}
+use Rattle.semantics.specs.RuleSet.{Term, var, fixed, equal, Call, Rule, RuleSet}
 
 abbrev nil : Term
 nil = fixed 0

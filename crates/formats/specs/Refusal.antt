@@ -1,7 +1,7 @@
 -- The answers of the ladder, and what they stand for.
 use mathlib.Core.List.{List, [], _∷_}
 use mathlib.Core.Path.{_≡_}
-use Prim.Native.Nat.{ℕ, _≤_}
+use Prim.Native.Nat.{ℕ}
 use lib.ListN.{length, getD, drop}
 use Rattle.semantics.specs.Reader.{Result, accepted, refused}
 use Rattle.semantics.specs.Formats.{readRuleSet, readSnapshot, Query, readQuery, ladder}

@@ -1,9 +1,9 @@
 -- The three ways in which a part may end: no room for its length, a length beyond the input, a length that fits.
 use mathlib.Core.Path.{_≡_, refl, sym, ap, _∙_}
-use mathlib.Core.List.{List, [], _∷_}
+use mathlib.Core.List.{List, []}
 use Prim.Native.Nat.{ℕ, _+_, _-_, _≤_, _<_}
 use native.Mathlib.Omega.{arith}
-use lib.ListN.{length, getD, take, drop, length-drop, drop-of-length-le}
+use lib.ListN.{length, getD, drop, length-drop, drop-of-length-le}
 use lib.Seq.{getD-drop, drop-drop, take-all, take-nil, drop-nil, drop-length}
 use Rattle.semantics.specs.Contract.{partLength}
 use Rattle.parts.specs.Parts.{PartAt}

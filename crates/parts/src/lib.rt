@@ -23,8 +23,8 @@ fn wide(byte: u8) -> usize
     byte as usize
 }
 
-// The part whose length stands at a place. Where a byte of the length is missing nothing follows it, so the part is empty; a length beyond
-// the input takes what there is.
+// The part whose length stands at a place. Where a byte of the length is missing nothing follows it, so the part is empty; where the length
+// is more than what is left, the part is what is left.
 fn part_at(s: &[u8], at: usize) -> Part
     requires { ⌜ at ≤ length (now s) ⌝ }
     ensures { λ r. ⌜ PartAt (now (s .entry)) at (r .from) (r .upto) ⌝ }

@@ -1,3 +1,4 @@
+-- What was loaded lies at the start of the words, so the check gets exactly that part; its reply is small, so the sum fits.
 use mathlib.Core.Path.{sym}
 use lib.Seq.{length-take-le}
 use native.Mathlib.Omega.{arith}
@@ -5,37 +6,26 @@ use Rattle.desk.proofs.Numbers.{loaded-within, loaded-long, checked-sma
 use borrow.Author.Needs.{needs}
 use Rattle.desk.proofs.desk_check.Statement.{statement}
 use Rattle.desk.proofs.desk_check.Tie as tie
-use Rattle.desk.proofs.desk_check.Reads as reads
-use Rattle.desk.proofs.desk_check.Lts as lts
-use Rattle.desk.proofs.load.Reads as load-reads
-use Rattle.engine.proofs.check.Reads as check-reads
 
--- src/lib.rt:78:9
 load-requires : tie.Need-load-requires
 load-requires c κs = search needs
 
--- src/lib.rt:79:9
 slice-aggregate-all : tie.Need-slice-aggregate-all
 slice-aggregate-all c = sym (loaded-long (c .before .load .ensures))
 
--- src/lib.rt:80:57
 slice-aggregate-check : tie.Need-slice-aggregate-check
 slice-aggregate-check c =
     let l = c .before .before .load in sym (length-take-le (l .result) (l .last .1 .0) (loaded-within (l .ensures)))
 
--- src/lib.rt:80:9
 check-requires : tie.Need-check-requires
 check-requires c κs = search needs
 
--- src/lib.rt:81:5
 mul-result : tie.Need-mul-result
 mul-result c = omega (arith, checked-small (c .before .check .ensures) .refusal-small)
 
--- src/lib.rt:81:5
 add-result : tie.Need-add-result
 add-result c = omega (arith, checked-small (c .before .before .check .ensures) .refusal-small, checked-small (c .before .before .check .ensures) .second-small)
 
--- src/lib.rt:68:1
 returns : tie.Need-returns
 returns c = desk-checked (c .before .before .before .before .before .load .ensures) (c .before .before .check .ensures)
 

@@ -1,34 +1,26 @@
+-- The engine's contract, for the memory of the entry's own; its reply is small, so the sum fits.
 use native.Mathlib.Omega.{arith}
 use mathlib.Core.Path.{refl}
 use Rattle.desk.proofs.Numbers.{decided-small}
 use borrow.Author.Needs.{needs}
 use Rattle.desk.proofs.desk_decide.Statement.{statement}
 use Rattle.desk.proofs.desk_decide.Tie as tie
-use Rattle.desk.proofs.desk_decide.Reads as reads
-use Rattle.desk.proofs.desk_decide.Lts as lts
-use Rattle.engine.proofs.decide.Reads as decide-reads
 
--- src/lib.rt:63:58
 slice-aggregate-decide : tie.Need-slice-aggregate-decide
 slice-aggregate-decide c = search needs
 
--- src/lib.rt:63:70
 slice-aggregate-decide-2 : tie.Need-slice-aggregate-decide-2
 slice-aggregate-decide-2 c = search needs
 
--- src/lib.rt:63:9
 decide-requires : tie.Need-decide-requires
 decide-requires c κs = search needs
 
--- src/lib.rt:64:5
 mul-result : tie.Need-mul-result
 mul-result c = omega (arith, decided-small (c .before .before .before .decide .ensures) .refusal-small)
 
--- src/lib.rt:64:5
 add-result : tie.Need-add-result
 add-result c = omega (arith, decided-small (c .before .before .before .before .decide .ensures) .refusal-small, decided-small (c .before .before .before .before .decide .ensures) .second-small)
 
--- src/lib.rt:57:1
 returns : tie.Need-returns
 returns c = record { reply = c .before .before .before .before .decide .result; table = _; space = _; decided = c .before .before .before .before .decide .ensures; is-number = refl }
 

@@ -1,6 +1,7 @@
+-- After k turns the first k words are those of the first 8 k bytes.
 use mathlib.Core.Path.{_≡_, refl}
 use mathlib.Core.List.{List·Memᴰ·not-nil}
-use Prim.Native.Nat.{ℕ, suc, _+_, _-_, _≤_}
+use Prim.Native.Nat.{suc, _+_, _-_, _≤_}
 use native.Mathlib.Omega.{arith}
 use native.Mathlib.Numerals.{add-one}
 use lib.ListN.{length, length-set}

@@ -1,3 +1,4 @@
+-- Bytes that are too many or no whole words load nothing; all others are the words that `fill` writes.
 use mathlib.Core.Path.{refl}
 use native.Mathlib.Omega.{arith}
 use Rattle.desk.specs.Words.{Loaded}

@@ -1,5 +1,6 @@
+-- The bytes come from the highest down: the word is the number of those from k on, so it is below 256 ^ (8 - k), with room for one more.
 use mathlib.Core.Path.{_≡_, refl, sym, ap, _∙_}
-use Prim.Native.Nat.{ℕ, suc, _+_, _-_, _*_, _^_, _≤_, _<_}
+use Prim.Native.Nat.{ℕ, suc, _+_, _-_, _^_, _≤_, _<_}
 use native.Mathlib.Omega.{arith}
 use lib.Seq.{slice, slice-empty}
 use Rattle.semantics.specs.Lists.{digits}

@@ -1,9 +1,6 @@
 -- The first of the three that refuses gives the refusal; where none does, the blocks hold what the ladder accepts.
-use native.Mathlib.Omega.{arith}
-use mathlib.Core.Path.{refl}
-use Rattle.formats.specs.Refusal.Read.{refuses}
 use Rattle.formats.proofs.Finishing.{book-refused, snapshot-refused, all-read}
-use mathlib.Core.Path.{_≡_, _∙_}
+use mathlib.Core.Path.{_∙_}
 use borrow.Author.Needs.{needs}
 use Rattle.formats.proofs.read.Statement.{statement}
 use Rattle.formats.proofs.read.Tie as tie

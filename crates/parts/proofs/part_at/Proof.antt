@@ -1,3 +1,4 @@
+-- The two bytes of the length are those of the definition; the three ways to end are those of Lists.
 use Rattle.parts.proofs.Lists.{none, cut, whole, first}
 use native.Mathlib.Omega.{arith}
 use lib.ListN.{length-drop, drop, getD}

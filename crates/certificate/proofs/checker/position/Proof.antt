@@ -1,4 +1,5 @@
--- `position` reads a term: below 8 it is a variable, whose digit the word has; any other byte is nil, or a variable that no word gives a position.
+-- `position` reads a term: below 8 it is a variable, whose digit the word has; any other byte is nil, or a variable that no word gives a
+-- position.
 use borrow.Author.Needs.{needs}
 use mathlib.Core.Path.{_∙_, ap}
 use Prim.Native.Nat.{ℕ}

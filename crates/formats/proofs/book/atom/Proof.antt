@@ -1,7 +1,6 @@
 -- Address, count and fields make the atom, and each leaves alone what the others wrote.
 use native.Mathlib.Omega.{arith}
 use Rattle.formats.proofs.Conditions.{atom-fills}
-use borrow.Author.Needs.{needs}
 use Rattle.formats.proofs.book.atom.Statement.{statement}
 use Rattle.formats.proofs.book.atom.Tie as tie
 

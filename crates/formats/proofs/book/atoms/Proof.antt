@@ -4,7 +4,6 @@ use Prim.Native.Nat.{_≤_, _-_}
 use Rattle.formats.specs.Layout.{Fills, many, atomLayout}
 use Rattle.formats.proofs.Locals.{atom-local}
 use Rattle.formats.proofs.Section.{none, more, whole}
-use borrow.Author.Needs.{needs}
 use Rattle.formats.proofs.book.atoms.Statement.{statement}
 use Rattle.formats.proofs.book.atoms.Tie as tie
 

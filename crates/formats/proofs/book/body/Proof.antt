@@ -2,7 +2,6 @@
 use native.Mathlib.Omega.{arith}
 use Rattle.formats.proofs.Heading.{header-kept}
 use Rattle.formats.proofs.RuleParts.{kept₀₅, body-fills}
-use borrow.Author.Needs.{needs}
 use Rattle.formats.proofs.book.body.Statement.{statement}
 use Rattle.formats.proofs.book.body.Tie as tie
 

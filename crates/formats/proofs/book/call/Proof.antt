@@ -2,7 +2,6 @@
 use native.Mathlib.Omega.{arith}
 use Rattle.formats.proofs.Conditions.{call-fills}
 use Rattle.formats.proofs.Heading.{arity-few}
-use borrow.Author.Needs.{needs}
 use Rattle.formats.proofs.book.call.Statement.{statement}
 use Rattle.formats.proofs.book.call.Tie as tie
 

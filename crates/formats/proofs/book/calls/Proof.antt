@@ -5,7 +5,6 @@ use Rattle.formats.specs.Layout.{Fills, many, aritiesIn, callLayout}
 use Rattle.formats.proofs.Heading.{header-kept, call-again}
 use Rattle.formats.proofs.Locals.{call-local}
 use Rattle.formats.proofs.Section.{none, more, whole}
-use borrow.Author.Needs.{needs}
 use Rattle.formats.proofs.book.calls.Statement.{statement}
 use Rattle.formats.proofs.book.calls.Tie as tie
 

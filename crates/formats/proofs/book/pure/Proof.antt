@@ -1,7 +1,6 @@
 -- The three parts make the condition, and each leaves alone what the others wrote.
 use native.Mathlib.Omega.{arith}
 use Rattle.formats.proofs.Conditions.{pure-fills}
-use borrow.Author.Needs.{needs}
 use Rattle.formats.proofs.book.pure.Statement.{statement}
 use Rattle.formats.proofs.book.pure.Tie as tie
 

@@ -4,7 +4,6 @@ use Prim.Native.Nat.{_≤_, _-_}
 use Rattle.formats.specs.Layout.{Fills, many, pureLayout}
 use Rattle.formats.proofs.Locals.{pure-local}
 use Rattle.formats.proofs.Section.{none, more, whole}
-use borrow.Author.Needs.{needs}
 use Rattle.formats.proofs.book.pures.Statement.{statement}
 use Rattle.formats.proofs.book.pures.Tie as tie
 

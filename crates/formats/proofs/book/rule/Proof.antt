@@ -2,7 +2,6 @@
 use native.Mathlib.Omega.{arith}
 use Rattle.formats.proofs.Heading.{header-kept, arity-few}
 use Rattle.formats.proofs.RuleParts.{rule-fills}
-use borrow.Author.Needs.{needs}
 use Rattle.formats.proofs.book.rule.Statement.{statement}
 use Rattle.formats.proofs.book.rule.Tie as tie
 

@@ -1,7 +1,6 @@
 -- The two sections make the rule set; each has its room, and the arities stay.
 use native.Mathlib.Omega.{arith}
 use Rattle.formats.proofs.Whole.{header₃, rule-set-fills}
-use borrow.Author.Needs.{needs}
 use Rattle.formats.proofs.book.rule_set.Statement.{statement}
 use Rattle.formats.proofs.book.rule_set.Tie as tie
 

@@ -5,7 +5,6 @@ use Rattle.formats.specs.Layout.{Fills, many, aritiesIn, ruleLayout}
 use Rattle.formats.proofs.Heading.{header-kept, rule-again}
 use Rattle.formats.proofs.Locals.{rule-local}
 use Rattle.formats.proofs.Section.{none, more, whole}
-use borrow.Author.Needs.{needs}
 use Rattle.formats.proofs.book.rules.Statement.{statement}
 use Rattle.formats.proofs.book.rules.Tie as tie
 

@@ -1,3 +1,4 @@
+-- After k turns k terms are filled.
 use native.Mathlib.Omega.{arith}
 use borrow.Author.Needs.{needs}
 use Prim.Native.Nat.{_≤_, _-_}

@@ -2,7 +2,6 @@
 use borrow.Author.Needs.{needs}
 use borrow.Author.Tests.{le-leb, lt-leb}
 use mathlib.Core.Logic.{⊎-elim}
-use native.Mathlib.Omega.{arith}
 use Rattle.formats.proofs.Chain.{chain, passed, failed, over}
 use Rattle.formats.proofs.bytes.ranged.Statement.{statement}
 use Rattle.formats.proofs.bytes.ranged.Tie as tie

@@ -5,7 +5,6 @@ use Rattle.formats.specs.HeapLayout.{valueLayout}
 use Rattle.formats.specs.Layout.{Fills, many}
 use Rattle.formats.proofs.HeapParts.{value-local}
 use Rattle.formats.proofs.Section.{none, more, whole}
-use borrow.Author.Needs.{needs}
 use Rattle.formats.proofs.fields.values.Statement.{statement}
 use Rattle.formats.proofs.fields.values.Tie as tie
 

@@ -1,7 +1,6 @@
 -- Address, count and fields make the record, and each leaves alone what the others wrote.
 use native.Mathlib.Omega.{arith}
 use Rattle.formats.proofs.HeapParts.{record-fills}
-use borrow.Author.Needs.{needs}
 use Rattle.formats.proofs.snapshot.heap_record.Statement.{statement}
 use Rattle.formats.proofs.snapshot.heap_record.Tie as tie
 

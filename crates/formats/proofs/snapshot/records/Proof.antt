@@ -5,7 +5,6 @@ use mathlib.Core.Path.{_≡_}
 use Rattle.formats.specs.HeapLayout.{recordsLayout}
 use Rattle.formats.specs.Layout.{Fills}
 use Rattle.formats.proofs.HeapParts.{lastAddress, last-none, last-more, records-none, records-more, records-whole}
-use borrow.Author.Needs.{needs}
 use Rattle.formats.proofs.snapshot.records.Statement.{statement}
 use Rattle.formats.proofs.snapshot.records.Tie as tie
 
