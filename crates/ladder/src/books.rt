@@ -55,8 +55,9 @@ pub(crate) fn segment() {
 }
 
 // H in the same way, and with a byte more.
-//   predicates 2, arguments 2 2 2, rules 2; the two rules of L; head 3, bound 2, conditions 2, cells 2, address 3, fields 2, term 3, calls 2,
-//   predicate 3, terms 3 3; head 3, bound 2, conditions 2, cells 2, calls 2, predicate 3, terms 3 3, predicate 3, terms 3 3
+//   predicates 2, arguments 2 2 2, rules 2; the two rules of L;
+//   head 3, bound 2, conditions 2, cells 2, address 3, fields 2, term 3, calls 2, predicate 3, terms 3 3;
+//   head 3, bound 2, conditions 2, cells 2, calls 2, predicate 3, terms 3 3, predicate 3, terms 3 3
 pub(crate) fn house() {
     open(b"H cut:");
     cut_books(&formats::HOUSE, &TWO);
@@ -140,8 +141,8 @@ pub(crate) fn variables() {
     close();
 }
 
-// Of one predicate with one argument: head 1, 255; kind 1 (read), 2, 255; address 0 (read), 1, nil; predicate of a call 0 (read), 1, 255; and
-// an address where there are no variables.
+// Of one predicate with one argument: head 1, 255; kind 1 (read), 2, 255; address 0 (read), 1, nil; predicate of a call 0 (read), 1, 255;
+// and an address where there are no variables.
 pub(crate) fn names() {
     open(b"names:");
     one(&[1, 1, 1, 1, 0, 0, 0, 0]);
@@ -159,8 +160,8 @@ pub(crate) fn names() {
     close();
 }
 
-// In a rule with the variables 0 and 1. A left term: nil and 1 are read, 2, 128 and 254 name nothing. A right term, a field, an argument of a
-// call: nil is read, 2 names nothing. Without variables nil is still read, and 0 names nothing.
+// In a rule with the variables 0 and 1. A left term: nil and 1 are read, 2, 128 and 254 name nothing. A right term, a field, an argument of
+// a call: nil is read, 2 names nothing. Without variables nil is still read, and 0 names nothing.
 pub(crate) fn terms() {
     open(b"terms:");
     one(&[1, 1, 1, 0, 1, 1, 0, 255, 1, 0, 0]);

@@ -18,9 +18,9 @@ fn asks_house(bytes: &[u8]) {
     book(&formats::HOUSE, bytes);
 }
 
-// A question in parts: 9 while it is too short, 0 for all its 10 bytes, 9 with a byte more. Then a predicate that there is not: 1, 255; a count
-// that is not the number of arguments, with as many values as it says: none, 1, 3; the right count with a value too few and one too many; any
-// values are read.
+// A question in parts: 9 while it is too short, 0 for all its 10 bytes, 9 with a byte more. Then a predicate that there is not: 1, 255; a
+// count that is not the number of arguments, with as many values as it says: none, 1, 3; the right count with a value too few and one too
+// many; any values are read.
 pub(crate) fn asked() {
     open(b"question cut:");
     cut_questions(&ASKED, &TWO);

@@ -4,9 +4,10 @@ use super::cut_snapshots;
 use super::open;
 use super::snapshot;
 
-// A record with address 1 and the fields 2, 3, 4, 5 in parts: the end in the count, in the address, in the field count and in every field is 5; the whole 22 bytes are read; a byte
-// more is 8. Then the counts: no record; the addresses 1 to 16 without fields, under the count 16 and under 17 (row 13); 255; no record and a byte
-// more; the same 16 records under the count 15, so that the last follows; 4 fields are read above, 5 and 255.
+// A record with address 1 and the fields 2, 3, 4, 5 in parts: the end in the count, in the address, in the field count and in every field
+// is 5; the whole 22 bytes are read; a byte more is 8. Then the counts: no record; the addresses 1 to 16 without fields, under the count 16
+// and under 17 (row 13); 255; no record and a byte more; the same 16 records under the count 15, so that the last follows; 4 fields are
+// read above, 5 and 255.
 pub(crate) fn counts() {
     open(b"record cut:");
     cut_snapshots(b"\x01\x01\0\0\0\x04\x02\0\0\0\x03\0\0\0\x04\0\0\0\x05\0\0\0\0");
@@ -29,8 +30,8 @@ pub(crate) fn counts() {
     close();
 }
 
-// The address 0; two records: 1 and 2, 1 and 1, 2 and 1, 1 and 0; lowest byte first: 255 and 256, 256 and 255, 65,536 and 65,535, 16,777,215 and
-// 16,777,216; the largest address, and the largest twice; the third of three is the second again.
+// The address 0; two records: 1 and 2, 1 and 1, 2 and 1, 1 and 0; lowest byte first: 255 and 256, 256 and 255, 65,536 and 65,535,
+// 16,777,215 and 16,777,216; the largest address, and the largest twice; the third of three is the second again.
 pub(crate) fn addresses() {
     open(b"addresses:");
     snapshot(&[1, 0, 0, 0, 0, 0]);
