@@ -1,7 +1,8 @@
 // Damaged and undamaged books.
+use super::Block;
 use super::book;
 use super::close;
-use super::cut_books;
+use super::cut;
 use super::damaged_books;
 use super::open;
 
@@ -46,7 +47,7 @@ const FOUR: [u8; 18] = [0, 4, 5, 0, 0, 0, 6, 0, 0, 0, 7, 0, 0, 0, 8, 0, 0, 0];
 // more follows the last section: 4 (row 11). Then L with 200 at each place.
 pub(crate) fn segment() {
     open(b"L cut:");
-    cut_books(&SEGMENT, &TWO);
+    cut(Block::Book, &SEGMENT, &TWO);
     close();
     open(b"L damaged:");
     let mut bytes = SEGMENT;
@@ -60,7 +61,7 @@ pub(crate) fn segment() {
 //   head 3, bound 2, conditions 2, cells 2, calls 2, predicate 3, terms 3 3, predicate 3, terms 3 3
 pub(crate) fn house() {
     open(b"H cut:");
-    cut_books(&formats::HOUSE, &TWO);
+    cut(Block::Book, &formats::HOUSE, &TWO);
     two(
         b"\x03\x02\x01\x02\x04\0\0\x01\0\0\x01\0\0\0\x01\0\x01\0\x01\x02\x01\0\x02\x01\x01\x01\0\x01\0\x01\x01\x01\0\x01\0\x02\0\0\0\x02\0\0\xff\0\x01\xff\0",
     );

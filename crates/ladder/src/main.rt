@@ -48,29 +48,24 @@ fn close() {
     io::write_all(STDOUT_FILENO, b"\n");
 }
 
-// Every part of a book from its start on, the empty one first and the whole one last.
-fn cut_books(bytes: &[u8], question: &[u8]) {
-    let mut n = 0;
-    while n <= bytes.len() {
-        book(&bytes[..n], question);
-        n += 1;
-    }
+// The block that is cut.
+enum Block {
+    Book,
+    Snapshot,
+    Question,
 }
 
-// The same of a snapshot.
-fn cut_snapshots(bytes: &[u8]) {
+// Every part of a block from its start on, the empty one first and the whole one last. Beside a book stands the question about it, and
+// beside a question the book; a snapshot has the plain ones.
+fn cut(block: Block, bytes: &[u8], beside: &[u8]) {
     let mut n = 0;
     while n <= bytes.len() {
-        snapshot(&bytes[..n]);
-        n += 1;
-    }
-}
-
-// The same of a question about a book.
-fn cut_questions(bytes: &[u8], about: &[u8]) {
-    let mut n = 0;
-    while n <= bytes.len() {
-        book(about, &bytes[..n]);
+        let part = &bytes[..n];
+        match block {
+            Block::Book => book(part, beside),
+            Block::Snapshot => snapshot(part),
+            Block::Question => book(beside, part),
+        }
         n += 1;
     }
 }

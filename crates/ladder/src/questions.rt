@@ -1,7 +1,8 @@
 // Damaged and undamaged questions.
+use super::Block;
 use super::book;
 use super::close;
-use super::cut_questions;
+use super::cut;
 use super::open;
 
 // One predicate with two arguments, and no rule.
@@ -23,7 +24,7 @@ fn asks_house(bytes: &[u8]) {
 // many; any values are read.
 pub(crate) fn asked() {
     open(b"question cut:");
-    cut_questions(&ASKED, &TWO);
+    cut(Block::Question, &ASKED, &TWO);
     close();
     open(b"questions:");
     asks(&[1, 2, 5, 0, 0, 0, 6, 0, 0, 0]);

@@ -1,6 +1,7 @@
 // Damaged and undamaged snapshots.
+use super::Block;
 use super::close;
-use super::cut_snapshots;
+use super::cut;
 use super::open;
 use super::snapshot;
 
@@ -10,7 +11,11 @@ use super::snapshot;
 // read above, 5 and 255.
 pub(crate) fn counts() {
     open(b"record cut:");
-    cut_snapshots(b"\x01\x01\0\0\0\x04\x02\0\0\0\x03\0\0\0\x04\0\0\0\x05\0\0\0\0");
+    cut(
+        Block::Snapshot,
+        b"\x01\x01\0\0\0\x04\x02\0\0\0\x03\0\0\0\x04\0\0\0\x05\0\0\0\0",
+        &[],
+    );
     close();
     open(b"records, fields:");
     snapshot(&[0]);
