@@ -17,8 +17,8 @@
  * README.md says what to do about each. 10 is not given here: the entries bring their own memory.
  *
  * Nothing is allocated, nothing that is lent is changed or kept, and no byte outside a block is read. A block of no bytes may have any
- * pointer that is not null. The entries share nothing, so several threads may call them at once. On the stack desk_decide has 32 KiB and
- * desk_check 24 KiB of words, and each some more for its calls (compare/memory.sh measures it).
+ * pointer that is not null. The entries share nothing, so several threads may call them at once. On the stack desk_decide
+ * uses 38,456 bytes and desk_check 26,920, measured by compare/memory.sh.
  */
 #ifndef DESK_H
 #define DESK_H
