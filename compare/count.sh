@@ -3,7 +3,7 @@
 # counted by callgrind. Names of pools may be given; `compare --names` lists them.
 set -euo pipefail
 cd "$(dirname "$0")"
-program=target/release/compare
+program=../target/compare/release/compare
 [ -x "$program" ] || { echo "build it first: cargo build --release --offline" >&2; exit 2; }
 
 # Instructions within the function that makes the call.

@@ -6,9 +6,9 @@ cd "$(dirname "$0")"
 library=${DESK_LIB:-../target/staticlib}
 checked="valgrind -q --error-exitcode=1 --leak-check=full"
 
-cc -std=c11 -Wall -Wextra -Werror -O1 -g -I../include caller.c -L"$library" -ldesk -lpthread -o target/caller
-target/caller --stack hostile/*.bin
+cc -std=c11 -Wall -Wextra -Werror -O1 -g -I../include caller.c -L"$library" -ldesk -lpthread -o ../target/compare/caller
+../target/compare/caller --stack hostile/*.bin
 # The quick ones: under the checker all is some fifty times slower.
-$checked target/caller hostile/{unequal-only,equality-chains,always-true-16,mutual-rotation}.bin
-$checked target/release/compare --no-program --thin 300
+$checked ../target/compare/caller hostile/{unequal-only,equality-chains,always-true-16,mutual-rotation}.bin
+$checked ../target/compare/release/compare --no-program --thin 300
 echo "no memory errors"

@@ -7,4 +7,4 @@ rt staticlib desk
 rt check bench
 cd compare
 cargo build --release --offline --quiet
-exec target/release/compare "$@"
+exec ../target/compare/release/compare "$@"
