@@ -1,8 +1,8 @@
 -- The steps of the builder, one after the other: a cleared space, the plan, the numbers, the lines at the start, and zeros after them.
 use mathlib.Core.List.{List, _++_}
-use mathlib.Core.Logic.{_⊎_, inl, inr, ⊎-elim, _≢_}
-use mathlib.Core.Path.{_≡_, refl, sym, ap, _∙_}
-use Prim.Native.Nat.{ℕ, zero, suc, _+_, _-_, _*_, _≤_, _<_}
+use mathlib.Core.Logic.{_≢_}
+use mathlib.Core.Path.{_≡_, sym, ap, _∙_}
+use Prim.Native.Nat.{ℕ, suc, _-_, _*_, _≤_, _<_}
 use native.Mathlib.Omega.{arith}
 use native.Mathlib.Decide.{ℕ-discrete}
 use lib.ListN.{length, getD, take, length-replicate}
@@ -12,13 +12,13 @@ use Rattle.semantics.specs.Contract.{padded}
 use Rattle.semantics.specs.Heap.{Heap}
 use Rattle.semantics.specs.Lists.{zeros}
 use Rattle.words.specs.Block.{ruleSetIn}
-use Rattle.table.specs.Layered.{codeAt, Layered}
+use Rattle.table.specs.Layered.{Layered}
 use Rattle.search.specs.InBlock.{domainIn, Represents}
 use Rattle.search.proofs.Passing.{zeros-at}
-use Rattle.builder.specs.Space.{markAt, positionsIn, namesIn, count, renamed}
+use Rattle.builder.specs.Space.{markAt, count}
 use Rattle.builder.specs.Steps.{Numberable, Named, Lined, Gathered}
 use Rattle.builder.specs.Plan.{Lent, Plans, Builds}
-use Rattle.builder.proofs.Counting.{count-marked, count-below, count-apart}
+use Rattle.builder.proofs.Counting.{count-below, count-apart}
 use Rattle.builder.proofs.Lines.{Described, certifies}
 
 -- a cleared space has no marks

@@ -1,23 +1,20 @@
 -- Facts that come round by round hold, and the facts before the first place of a round are those of earlier rounds. So what is supplied for a
 -- fact from the places before its round is a ground of it.
 use mathlib.Core.List.{List}
-use mathlib.Core.Logic.{_⊎_, inl, inr, ⊎-elim, _≢_}
-use mathlib.Core.Path.{_≡_, refl, sym, ap, _∙_}
-use Prim.Native.Nat.{ℕ, zero, suc, _+_, _-_, _*_, _/_, _≤_, _<_}
+use mathlib.Core.Logic.{⊎-elim}
+use mathlib.Core.Path.{_≡_, ap}
+use Prim.Native.Nat.{ℕ, zero, suc, _-_, _<_}
 use native.Mathlib.Omega.{arith}
 use native.Mathlib.Decide.{decLt}
 use native.Mathlib.Nat.{eq-or-lt-of-le}
-use lib.ListN.{length, getD, take, List·getD-map}
-use lib.Seq.{getD-take}
 use Rattle.semantics.specs.Heap.{Heap}
-use Rattle.semantics.specs.Lists.{_∈_}
 use Rattle.semantics.specs.Rounds.{Follows, Holds}
 use Rattle.semantics.specs.RuleSet.{RuleSet}
 use Rattle.semantics.proofs.FixedPoint.{holds-closed}
 use Rattle.words.specs.Block.{ruleSetIn}
 use Rattle.table.specs.Layered.{codeAt, roundAt, EarlierFact, Layered}
-use Rattle.search.specs.InBlock.{domainIn, Represents}
-use Rattle.builder.specs.Space.{Earlier, Grounded}
+use Rattle.search.specs.InBlock.{domainIn}
+use Rattle.builder.specs.Space.{Earlier}
 use Rattle.builder.specs.Steps.{Opens}
 use Rattle.builder.specs.Seek.{Known, Below, Supplied}
 use Rattle.builder.specs.Plan.{GroundedAt}

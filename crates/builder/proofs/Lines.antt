@@ -1,15 +1,15 @@
 -- Marked places with a ground each, numbered and written line by line, are a certificate of the engine's kind. A line's number is one more
 -- than the count of marked places before it, so called lines are earlier, every line is some place's, and no fact stands twice.
-use mathlib.Core.List.{List, [], _∷_, _++_, map, List·Memᴰ, List·Memᴰ·head, List·Memᴰ·tail, List·Memᴰ·cases-cons, List·Memᴰ·not-nil, Memᴰ·map, Memᴰ·of-map, Memᴰ·cast}
-use mathlib.Core.Logic.{_≢_, _⊎_, inl, inr, ⊎-elim}
+use mathlib.Core.List.{List, [], _∷_, _++_, map, List·Memᴰ·head, List·Memᴰ·tail, Memᴰ·map, Memᴰ·of-map, Memᴰ·cast}
+use mathlib.Core.Logic.{_≢_, ⊎-elim}
 use mathlib.Core.Path.{_≡_, refl, sym, ap, ap₂, _∙_}
-use Prim.Native.Nat.{ℕ, zero, suc, _+_, _-_, _*_, _/_, _%_, _≤_, _<_}
+use Prim.Native.Nat.{ℕ, zero, suc, _+_, _-_, _*_, _%_, _≤_, _<_}
 use native.Mathlib.Omega.{arith}
 use native.Mathlib.Decide.{decLt}
 use native.Mathlib.Nat.{eq-or-lt-of-le}
 use lib.ListN.{length, getD, length-map}
 use Rattle.semantics.specs.Lists.{_∈_, digits, zeros}
-use Rattle.semantics.specs.RuleSet.{RuleSet, WellFormed, ruleOf}
+use Rattle.semantics.specs.RuleSet.{RuleSet, WellFormed}
 use Rattle.semantics.specs.Heap.{Heap}
 use Rattle.semantics.specs.Fact.{fact}
 use Rattle.semantics.specs.Certificate.{factAt, positionsAt, ruleAt, LineHolds}
@@ -19,7 +19,7 @@ use Rattle.search.proofs.SemiNaive.{called-length}
 use Rattle.table.specs.Layered.{codeAt, roundAt}
 use Rattle.builder.specs.Space.{markAt, positionsIn, namesIn, calledIn, calledAt, Earlier, Grounded, Planned, count, lineOf, renamed}
 use Rattle.builder.specs.Plan.{Certifies}
-use Rattle.builder.proofs.Counting.{count-marked, count-line, count-rises, count-below, count-apart, count-same, Numbered, count-onto}
+use Rattle.builder.proofs.Counting.{count-marked, count-rises, count-below, count-apart, count-same, Numbered, count-onto}
 use Rattle.builder.proofs.Packed.{called-read, positive, positive-padded}
 
 -- The words have, for each marked place, a line with its fact, its positions and its called lines.

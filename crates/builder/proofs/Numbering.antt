@@ -2,15 +2,14 @@
 use mathlib.Core.List.{List, [], _∷_, map}
 use mathlib.Core.Logic.{_≢_, _⊎_, inl, inr, ⊎-elim}
 use mathlib.Core.Path.{_≡_, refl, sym, ap, ap₂, _∙_}
-use Prim.Native.Nat.{ℕ, zero, suc, _+_, _-_, _*_, _/_, _%_, _≤_, _<_}
+use Prim.Native.Nat.{ℕ, suc, _+_, _*_, _/_, _%_, _≤_, _<_}
 use native.Mathlib.Omega.{arith}
-use native.Mathlib.Decide.{ℕ-discrete}
 use native.Mathlib.Nat.{eq-or-lt-of-le, mod-eq-of-lt}
 use lib.ListN.{length, getD, set, length-set}
 use lib.Seq.{getD-set-same}
-use Rattle.semantics.specs.Lists.{digits, digitsOf}
+use Rattle.semantics.specs.Lists.{digits}
 use Rattle.semantics.proofs.Digits.{digitsOf-length}
-use Rattle.builder.specs.Space.{markAt, positionsIn, namesIn, calledIn, calledAt, Planned, count, lineOf, renamed}
+use Rattle.builder.specs.Space.{markAt, positionsIn, namesIn, calledIn, calledAt, count, lineOf, renamed}
 use Rattle.builder.specs.Steps.{numberAt, Numberable, Named}
 use Rattle.builder.proofs.Counting.{count-marked, count-free, count-below}
 use Rattle.builder.proofs.Marks.{mark-other, mark-positions, mark-names, names-marks, names-positions, names-other}

@@ -2,14 +2,14 @@
 -- every marked place but the query's is called by one that was passed.
 use mathlib.Core.List.{List}
 use mathlib.Core.Logic.{_⊎_, inl, inr, ⊎-elim, _≢_}
-use mathlib.Core.Path.{_≡_, refl, sym, ap, ap₂, _∙_}
-use Prim.Native.Nat.{ℕ, zero, suc, _+_, _-_, _*_, _≤_, _<_}
+use mathlib.Core.Path.{_≡_, refl, sym, ap, _∙_}
+use Prim.Native.Nat.{ℕ, zero, suc, _+_, _*_, _≤_, _<_}
 use native.Mathlib.Omega.{arith}
 use native.Mathlib.Decide.{ℕ-discrete}
 use native.Mathlib.Nat.{eq-or-lt-of-le}
 use lib.ListN.{length, getD, set, length-set}
-use lib.Seq.{getD-set-same, getD-set-other}
-use Rattle.builder.specs.Space.{markAt, positionsIn, namesIn, calledAt, Planned}
+use lib.Seq.{getD-set-same}
+use Rattle.builder.specs.Space.{markAt, positionsIn, namesIn, calledAt}
 use Rattle.builder.specs.Steps.{marking}
 use Rattle.builder.specs.Plan.{GroundedAt, visiting, Visited, Plans}
 use Rattle.builder.proofs.Marks.{mark-other, mark-positions, mark-names, positions-marks, positions-other, positions-names, names-marks, names-positions, names-other}

@@ -1,6 +1,6 @@
 -- What the builder asks and promises: a certificate of the engine's kind, with its lines in the table's order and each ground from earlier
 -- rounds.
-use mathlib.Core.List.{List, _++_}
+use mathlib.Core.List.{List}
 use mathlib.Core.Logic.{_≢_}
 use mathlib.Core.Path.{_≡_}
 use Prim.Native.Nat.{ℕ, _+_, _*_, _≤_, _<_}

@@ -3,7 +3,7 @@ use mathlib.Core.List.{List}
 use mathlib.Core.Logic.{_≢_}
 use mathlib.Core.Path.{_≡_}
 use Prim.Native.Nat.{ℕ, zero, suc, _+_, _-_, _*_, _%_, _≤_, _<_}
-use lib.ListN.{length, getD, set}
+use lib.ListN.{length, set}
 use Rattle.semantics.specs.Certificate.{factAt, positionsAt, ruleAt}
 use Rattle.table.specs.Layered.{codeAt, roundAt}
 use Rattle.builder.specs.Space.{markAt, positionsIn, namesIn, Planned, count, renamed}

@@ -1,15 +1,13 @@
 -- From the blocks in positions back to what was read.
-use mathlib.Core.Path.{_≡_, refl, sym, ap, _∙_}
+use mathlib.Core.Path.{_≡_, refl, ap, _∙_}
 use mathlib.Core.List.{List}
 use Prim.Native.Nat.{ℕ, _*_}
 use native.Mathlib.Omega.{arith}
 use lib.ListN.{length}
 use Rattle.semantics.specs.Lists.{zeros}
-use Rattle.semantics.specs.Reader.{accepted, refused}
-use Rattle.semantics.specs.Formats.{ladder}
 use Rattle.semantics.specs.Contract.{Lent, refusalReply, Answers, Decided}
 use Rattle.semantics.specs.declared.Reply.{Reply}
-use Rattle.words.specs.Block.{ruleSetIn, inputIn}
+use Rattle.words.specs.Block.{inputIn}
 use Rattle.fixpoint.specs.Fixpoint.{Ran, Saturated, Overflows}
 use Rattle.fixpoint.specs.declared.Outcome.{Outcome}
 use Rattle.fixpoint.specs.declared.Outcome.the-variants.{Done, Over}

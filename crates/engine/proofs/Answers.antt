@@ -1,11 +1,10 @@
 -- From what the readers say to the contracts' cases.
-use mathlib.Core.Path.{_≡_, refl, sym, ap, _∙_}
+use mathlib.Core.Path.{_≡_, refl}
 use mathlib.Core.Bool.{Bool, true, false}
 use mathlib.Core.List.{List}
 use Prim.Native.Nat.{ℕ}
 use lib.ListN.{length}
-use Rattle.semantics.specs.Reader.{Result, accepted, refused}
-use Rattle.semantics.specs.Formats.{Input, ladder, WellFormedInput}
+use Rattle.semantics.specs.Formats.{WellFormedInput}
 use Rattle.semantics.specs.Contract.{CertificateInput, Checked}
 use Rattle.semantics.proofs.FormatsFacts.{ladder-read}
 use Rattle.words.specs.Subheap.{Told}

@@ -10,8 +10,7 @@ use Rattle.semantics.specs.RuleSet.{arity}
 use Rattle.semantics.specs.Heap.{Heap, wholeOf}
 use Rattle.semantics.specs.Tree.{Fits}
 use Rattle.semantics.specs.Fact.{fact}
-use Rattle.semantics.specs.Contract.{padded, Lent, Filled, FilledInput, refusalReply, Answers}
-use Rattle.semantics.specs.declared.Reply.{Reply}
+use Rattle.semantics.specs.Contract.{padded, FilledInput, refusalReply, Answers}
 use Rattle.semantics.proofs.Coding.{getD-in}
 use Rattle.semantics.proofs.Verdict.{verdict}
 use Rattle.words.specs.Block.{ruleSetIn}

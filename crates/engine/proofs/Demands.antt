@@ -1,17 +1,17 @@
 -- The three demands, as statements about every outcome that the contracts of `decide` and `check` allow. The functions of this crate are
 -- proved to meet these contracts for all bytes, lengths and lent memory, and to end.
-use mathlib.Core.Path.{_≡_, refl, sym, ap, _∙_}
-use mathlib.Core.Logic.{_↔_, _⊎_, inl, inr, ⊎-elim}
-use mathlib.Core.List.{List, []}
-use Prim.Native.Nat.{ℕ, _*_, _≤_, _<_}
+use mathlib.Core.Path.{_≡_, sym, ap, _∙_}
+use mathlib.Core.Logic.{_↔_}
+use mathlib.Core.List.{List}
+use Prim.Native.Nat.{ℕ, _*_}
 use native.Mathlib.Omega.{arith}
 use lib.ListN.{length, take}
-use Rattle.semantics.specs.Lists.{_∈_, zeros}
+use Rattle.semantics.specs.Lists.{zeros}
 use Rattle.semantics.specs.Heap.{wholeOf}
 use Rattle.semantics.specs.Reader.{Result, accepted, refused}
 use Rattle.semantics.specs.Formats.{Input, ladder}
 use Rattle.semantics.specs.Certificate.{Opened}
-use Rattle.semantics.specs.Contract.{domainOf, HoldsInput, FitsInput, CertificateInput, TrimmedInput, FilledInput, MoreFactsThan, Lent, padded, refusalReply, Answers, Decided, Checked}
+use Rattle.semantics.specs.Contract.{domainOf, FitsInput, CertificateInput, TrimmedInput, FilledInput, MoreFactsThan, Lent, padded, refusalReply, Answers, Decided, Checked}
 use Rattle.semantics.specs.declared.Reply.{Reply}
 use Rattle.semantics.specs.declared.CheckReply.{CheckReply}
 use Rattle.semantics.proofs.Reached.{more-facts}

@@ -1,19 +1,18 @@
 -- The table after the rounds: its facts come round by round, each from those of earlier rounds, as the builder of certificates asks.
-use mathlib.Core.Path.{_≡_, refl, sym, ap, _∙_}
+use mathlib.Core.Path.{_≡_, sym, _∙_}
 use mathlib.Core.Logic.{_≢_}
-use mathlib.Core.List.{List, _∷_, map, Memᴰ·cast}
-use Prim.Native.Nat.{ℕ, zero, suc, _/_, _≤_, _<_}
+use mathlib.Core.List.{List, _∷_, Memᴰ·cast}
+use Prim.Native.Nat.{ℕ, zero, suc, _<_}
 use native.Mathlib.Omega.{arith}
 use lib.ListN.{length, getD, take}
 use lib.Seq.{getD-take, length-take-le}
 use Rattle.semantics.specs.Lists.{_∈_, Distinct}
 use Rattle.semantics.specs.RuleSet.{RuleSet}
 use Rattle.semantics.specs.Heap.{Heap}
-use Rattle.semantics.specs.Rounds.{Follows, Table}
 use Rattle.semantics.proofs.Coding.{getD-in}
 use Rattle.semantics.proofs.FixedPoint.{follows-more}
-use Rattle.table.specs.Table.{codeOf, roundOf, factsIn, Tagged}
-use Rattle.table.specs.Layered.{codeAt, roundAt, EarlierFact, Layered}
+use Rattle.table.specs.Table.{factsIn, Tagged}
+use Rattle.table.specs.Layered.{codeAt, EarlierFact, Layered}
 use Rattle.table.proofs.Places.{place-of, rising}
 use Rattle.table.proofs.Passes.{facts-length}
 use Rattle.table.proofs.Rounds.{fact-at}

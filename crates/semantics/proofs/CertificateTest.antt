@@ -8,7 +8,7 @@ use Rattle.semantics.specs.Lists.{digitsOf, member, digits}
 use Rattle.semantics.specs.RuleSet.{Call, Rule, RuleSet, arity, variables, blankRule}
 use Rattle.semantics.specs.Heap.{Heap}
 use Rattle.semantics.specs.Tree.{valuesOf}
-use Rattle.semantics.specs.Fact.{position, fact, partOf}
+use Rattle.semantics.specs.Fact.{fact, partOf}
 use Rattle.semantics.specs.Certificate.{factAt, positionsAt, ruleAt}
 use Rattle.semantics.proofs.Evaluator.{every, both, meetsAll, takings, joined}
 

@@ -1,9 +1,9 @@
 -- The contracts can be met: for all bytes and all lent memory there is an outcome of the engine, and for all words one of the check.
 use mathlib.Core.Bool.{Bool, true, false, false≢true}
-use mathlib.Core.Path.{_≡_, refl, sym, ap, ap₂, _∙_}
-use mathlib.Core.Logic.{_≢_, _↔_, _⊎_, inl, inr, ⊎-elim}
-use mathlib.Core.List.{List, [], _∷_, _++_}
-use Prim.Native.Nat.{ℕ, zero, suc, _+_, _*_, _≤_, _<_}
+use mathlib.Core.Path.{_≡_, refl, sym, _∙_}
+use mathlib.Core.Logic.{_↔_}
+use mathlib.Core.List.{List}
+use Prim.Native.Nat.{ℕ, _*_, _≤_, _<_}
 use native.Mathlib.Omega.{arith}
 use native.Mathlib.Decide.{ℕ-discrete, decLt}
 use lib.ListN.{length}
@@ -11,9 +11,7 @@ use Rattle.semantics.specs.Lists.{zeros}
 use Rattle.semantics.specs.Heap.{wholeOf}
 use Rattle.semantics.specs.Reader.{Result, refused, accepted}
 use Rattle.semantics.specs.Formats.{Input, ladder, WellFormedInput}
-use Rattle.semantics.specs.Domain.{domain, good}
-use Rattle.semantics.specs.Certificate.{Certificate, Trimmed}
-use Rattle.semantics.specs.Contract.{domainOf, FitsInput, CertificateInput, TrimmedInput, Lent, MoreFactsThan, CompletedInput, FilledInput, padded, refusalReply, Answers, Decided, Checked}
+use Rattle.semantics.specs.Contract.{domainOf, FitsInput, CertificateInput, Lent, CompletedInput, padded, refusalReply, Answers, Decided, Checked}
 use Rattle.semantics.proofs.DomainFacts.{domain-ascending, domain-length}
 use Rattle.semantics.proofs.FormatsFacts.{ladder-read}
 use Rattle.semantics.proofs.Existence.{trimmed-exists}

@@ -1,20 +1,15 @@
 -- What the contract of the engine decides: everything but the certificate that is written on fits and its number of lines.
 use mathlib.Core.Path.{_≡_, refl, sym, ap, ap₂, _∙_}
-use mathlib.Core.Logic.{_≢_, _↔_, _⊎_, inl, inr, ⊎-elim}
-use mathlib.Core.List.{List, [], _∷_, _++_}
-use Prim.Native.Nat.{ℕ, zero, suc, _+_, _-_, _*_, _≤_, _<_}
+use mathlib.Core.Logic.{_↔_}
+use mathlib.Core.List.{List}
+use Prim.Native.Nat.{ℕ, _-_, _*_, _≤_}
 use native.Mathlib.Omega.{arith}
 use lib.ListN.{length, take}
 use lib.Seq.{take-append-seam}
-use Rattle.semantics.specs.Lists.{_∈_, zeros}
-use Rattle.semantics.specs.RuleSet.{arity}
-use Rattle.semantics.specs.Heap.{wholeOf}
+use Rattle.semantics.specs.Lists.{zeros}
 use Rattle.semantics.specs.Reader.{Result, refused, accepted}
-use Rattle.semantics.specs.Formats.{Input, ladder, WellFormedInput}
-use Rattle.semantics.specs.Tree.{Fits}
-use Rattle.semantics.specs.Domain.{good}
-use Rattle.semantics.specs.Certificate.{Certificate, Trimmed}
-use Rattle.semantics.specs.Contract.{domainOf, FitsInput, CertificateInput, TrimmedInput, Lent, MoreFactsThan, CompletedInput, FilledInput, padded, refusalReply, Answers, Decided, Checked, deskNumber, DeskDecided, DeskChecked}
+use Rattle.semantics.specs.Formats.{Input, ladder}
+use Rattle.semantics.specs.Contract.{FitsInput, CertificateInput, MoreFactsThan, CompletedInput, padded, refusalReply, Answers, Decided, Checked, deskNumber, DeskDecided, DeskChecked}
 use Rattle.semantics.proofs.FormatsFacts.{ladder-read, ladder-number}
 use Rattle.semantics.proofs.Opening.{whole-opens}
 use Rattle.semantics.proofs.Reached.{completed-unique, more-facts}

@@ -1,16 +1,14 @@
 -- What is lent keeps its length in every outcome: the facts and the lines that are written fit.
 use mathlib.Core.Path.{_≡_, refl, sym, ap, _∙_}
-use mathlib.Core.Logic.{_≢_, _⊎_, ⊎-elim}
-use mathlib.Core.List.{List, [], _∷_, _++_, List·Memᴰ, List·Memᴰ·head, List·Memᴰ·tail, List·Memᴰ·cases-cons, List·Memᴰ·not-nil}
-use Prim.Native.Nat.{ℕ, zero, suc, _+_, _-_, _*_, _≤_, _<_}
+use mathlib.Core.Logic.{_≢_, ⊎-elim}
+use mathlib.Core.List.{List, [], _∷_, List·Memᴰ·cases-cons, List·Memᴰ·not-nil}
+use Prim.Native.Nat.{ℕ, zero, suc, _-_, _*_, _≤_, _<_}
 use native.Mathlib.Omega.{arith}
 use lib.ListN.{length, length-append, length-replicate}
 use Rattle.semantics.specs.Lists.{_∈_, Distinct, zeros}
-use Rattle.semantics.specs.Reader.{Result, refused}
-use Rattle.semantics.specs.Formats.{Input, ladder, WellFormedInput}
-use Rattle.semantics.specs.Domain.{good}
-use Rattle.semantics.specs.Certificate.{factAt, Certificate, Trimmed}
-use Rattle.semantics.specs.Contract.{domainOf, TrimmedInput, CompletedInput, Filled, padded, Lent, Answers, Decided}
+use Rattle.semantics.specs.Formats.{Input, WellFormedInput}
+use Rattle.semantics.specs.Certificate.{factAt}
+use Rattle.semantics.specs.Contract.{domainOf, TrimmedInput, CompletedInput, padded, Answers, Decided}
 use Rattle.semantics.proofs.FixedPoint.{holding-counted}
 use Rattle.semantics.proofs.FormatsFacts.{ladder-read}
 use Rattle.semantics.proofs.WordsSmall.{line-holds}

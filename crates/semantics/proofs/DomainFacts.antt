@@ -1,16 +1,16 @@
 -- The domain is what it should be: good values and spares, ascending; the spares are outside the good values, smallest first.
 use mathlib.Core.Bool.{Bool, true, false, false≢true}
-use mathlib.Core.Path.{_≡_, refl, sym, ap, ap₂, _∙_}
+use mathlib.Core.Path.{_≡_, refl, sym, ap, _∙_}
 use mathlib.Core.Logic.{_≢_, _⊎_, inl, inr, ⊎-elim}
-use mathlib.Core.List.{List, [], _∷_, _++_, map, List·Memᴰ, List·Memᴰ·head, List·Memᴰ·tail, List·Memᴰ·cases-cons, List·Memᴰ·not-nil, Memᴰ·append-left, Memᴰ·append-right, List·Memᴰ·append-cases, Memᴰ·cast}
-use Prim.Native.Nat.{ℕ, zero, suc, _+_, _*_, _≤_, _<_, max}
+use mathlib.Core.List.{List, [], _∷_, _++_, List·Memᴰ·head, List·Memᴰ·tail, List·Memᴰ·cases-cons, List·Memᴰ·not-nil, Memᴰ·append-left, Memᴰ·append-right, List·Memᴰ·append-cases, Memᴰ·cast}
+use Prim.Native.Nat.{ℕ, zero, suc, _+_, _*_, _≤_, _<_}
 use native.Mathlib.Omega.{arith}
 use native.Mathlib.Decide.{ℕ-discrete, decLt}
 use lib.ListN.{length, getD, length-append}
 use lib.Dec.{eqb, ltb}
 use borrow.Author.Tests.{eq-eqb, ne-eqb, lt-ltb, le-ltb}
 use Rattle.semantics.specs.Lists.{_∈_, member, Distinct, Ascending}
-use Rattle.semantics.specs.RuleSet.{Rule, RuleSet, variables, fixedValues, WellFormed}
+use Rattle.semantics.specs.RuleSet.{Rule, RuleSet, variables, fixedValues}
 use Rattle.semantics.specs.Heap.{Record, Heap, blank, recordValues, heapValues}
 use Rattle.semantics.specs.Formats.{Valid}
 use Rattle.semantics.specs.Domain.{good, firstOutside, least, spares, insert, ascending, mostVariables, sparesOf, domain, mostValues}

@@ -5,7 +5,7 @@ use Prim.Native.Nat.{ℕ, zero, suc, _+_, _^_}
 use lib.Dec.{eqb}
 use lib.Bits.{bitAnd}
 use Rattle.semantics.specs.Lists.{member}
-use Rattle.semantics.specs.RuleSet.{Term, Kind, equal, unequal, Pure, PointsTo, Call, Rule, RuleSet, arity}
+use Rattle.semantics.specs.RuleSet.{Kind, equal, unequal, Pure, PointsTo, Call, Rule, RuleSet, arity}
 use Rattle.semantics.specs.Heap.{Record, Heap}
 use Rattle.semantics.specs.Tree.{valueOf, valuesOf, asked}
 use Rattle.semantics.specs.Domain.{ascending}

@@ -1,10 +1,10 @@
 -- Where the query fits, there is a certificate of the engine's kind: build the facts that the query's fact needs, oldest first, drop those
 -- that nothing needs, and write a line for each.
-use mathlib.Core.Bool.{Bool, true, false}
-use mathlib.Core.Path.{_≡_, refl, sym, ap, ap₂, _∙_, subst}
+use mathlib.Core.Bool.{true, false}
+use mathlib.Core.Path.{_≡_, refl, sym, ap, ap₂, _∙_}
 use mathlib.Core.Logic.{_≢_, _⊎_, inl, inr, ⊎-elim}
-use mathlib.Core.List.{List, [], _∷_, _++_, map, List·Memᴰ, List·Memᴰ·head, List·Memᴰ·tail, List·Memᴰ·cases-cons, List·Memᴰ·not-nil, List·Memᴰ·append-cases, Memᴰ·append-left, Memᴰ·append-right, Memᴰ·map, Memᴰ·of-map, Memᴰ·cast}
-use Prim.Native.Nat.{ℕ, zero, suc, _+_, _-_, _*_, _≤_, _<_}
+use mathlib.Core.List.{List, [], _∷_, _++_, map, List·Memᴰ·head, List·Memᴰ·tail, List·Memᴰ·cases-cons, List·Memᴰ·not-nil, List·Memᴰ·append-cases, Memᴰ·append-left, Memᴰ·append-right, Memᴰ·map, Memᴰ·of-map, Memᴰ·cast}
+use Prim.Native.Nat.{ℕ, suc, _+_, _*_, _≤_, _<_}
 use native.Mathlib.Omega.{arith}
 use native.Mathlib.Decide.{ℕ-discrete}
 use lib.ListN.{length, getD, length-append, List·getD-append}
@@ -12,14 +12,14 @@ use lib.Seq.{getD-append-add}
 use lib.Dec.{eqb}
 use borrow.Author.Tests.{eq-eqb, ne-eqb}
 use Rattle.semantics.specs.Lists.{_∈_, Distinct, digits}
-use Rattle.semantics.specs.RuleSet.{Rule, RuleSet, arity, WellFormed, blankRule}
-use Rattle.semantics.specs.Heap.{Heap, wholeOf, Joins}
+use Rattle.semantics.specs.RuleSet.{RuleSet, blankRule}
+use Rattle.semantics.specs.Heap.{Heap, wholeOf}
 use Rattle.semantics.specs.Formats.{Valid}
 use Rattle.semantics.specs.Tree.{Fits}
 use Rattle.semantics.specs.Domain.{domain}
-use Rattle.semantics.specs.Fact.{position, fact, partOf}
-use Rattle.semantics.specs.Rounds.{Called, Ground, Complete, After, Holds, AllHold}
-use Rattle.semantics.specs.Certificate.{factAt, positionsAt, ruleAt, Written, LineHolds, Certificate, Trimmed}
+use Rattle.semantics.specs.Fact.{position, fact}
+use Rattle.semantics.specs.Rounds.{Ground, Complete, After, Holds, AllHold}
+use Rattle.semantics.specs.Certificate.{factAt, LineHolds, Trimmed}
 use Rattle.semantics.proofs.Bits.{decIn}
 use Rattle.semantics.proofs.DomainFacts.{query-good}
 use Rattle.semantics.proofs.FixedPoint.{holds-closed, table-holds, holding-counted}

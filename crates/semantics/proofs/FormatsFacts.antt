@@ -1,17 +1,17 @@
 -- What the ladder accepts is well formed and within every size; what it refuses has a number of 1 to 9. For each reader, one law says what
 -- is known of what it gives; a chain of readers has the laws chained. With bytes below 256 every value is below 2 ^ 32.
 use mathlib.Core.Bool.{Bool, true, false}
-use mathlib.Core.Path.{_≡_, refl, sym, ap, _∙_}
-use mathlib.Core.Logic.{_⊎_, inl, inr, ⊎-elim}
-use mathlib.Core.List.{List, [], _∷_, _++_, List·Memᴰ, List·Memᴰ·head, List·Memᴰ·tail, List·Memᴰ·cases-cons, List·Memᴰ·not-nil, List·Memᴰ·append-cases}
-use Prim.Native.Nat.{ℕ, zero, suc, _+_, _*_, _^_, _≤_, _<_}
+use mathlib.Core.Path.{_≡_, refl, ap, _∙_}
+use mathlib.Core.Logic.{⊎-elim}
+use mathlib.Core.List.{List, [], _∷_, List·Memᴰ·head, List·Memᴰ·tail, List·Memᴰ·cases-cons, List·Memᴰ·not-nil, List·Memᴰ·append-cases}
+use Prim.Native.Nat.{ℕ, zero, suc, _+_, _≤_, _<_}
 use native.Mathlib.Omega.{arith}
 use lib.ListN.{length, getD}
 use lib.Dec.{eqb, leb, ltb}
 use borrow.Author.Tests.{eqb-true, leb-true, ltb-true}
 use Rattle.semantics.specs.Lists.{_∈_, digits}
-use Rattle.semantics.specs.RuleSet.{Term, var, fixed, Kind, Pure, PointsTo, Call, Rule, RuleSet, arity, InScope, WellFormed, WellFormedRule}
-use Rattle.semantics.specs.Heap.{Record, Heap, Above, WellFormedHeap, recordValues, heapValues}
+use Rattle.semantics.specs.RuleSet.{Term, var, fixed, Kind, Pure, PointsTo, Call, Rule, RuleSet, InScope, WellFormed, WellFormedRule}
+use Rattle.semantics.specs.Heap.{Record, Heap, Above, WellFormedHeap, heapValues}
 use Rattle.semantics.specs.Reader.{Got, got, fault, Reader, onward, _>>=_, give, ensure, byte, times, counted, word, Result, accepted, refused, all, andThen}
 use Rattle.semantics.specs.Formats.{isAddress, named, termOf, term, kindOf, kind, pure, atom, call, body, rule, arguments, predicates, ruleSet, readRuleSet, value, address, records, snapshot, readSnapshot, Query, query, readQuery, Input, ladder, WellFormedInput}
 use Rattle.semantics.proofs.Digits.{digits-below}

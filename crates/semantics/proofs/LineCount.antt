@@ -1,10 +1,10 @@
 -- How many lines a certificate of the engine's kind has: a test that computes. It goes from the last line to the first, with the facts passed, and
 -- those that a line passed calls and that are yet to come.
 use mathlib.Core.Bool.{Bool, true, false, false≢true}
-use mathlib.Core.Path.{_≡_, refl, sym, ap, ap₂, _∙_}
+use mathlib.Core.Path.{_≡_, refl, sym, ap, _∙_}
 use mathlib.Core.Logic.{_≢_, _⊎_, inl, inr, ⊎-elim}
-use mathlib.Core.List.{List, [], _∷_, _++_, map, flatMap, List·Memᴰ, List·Memᴰ·head, List·Memᴰ·tail, List·Memᴰ·cases-cons, List·Memᴰ·not-nil, List·Memᴰ·append-cases, Memᴰ·append-left, Memᴰ·append-right, Memᴰ·map, Memᴰ·of-map, Memᴰ·cast}
-use Prim.Native.Nat.{ℕ, zero, suc, _+_, _≤_, _<_}
+use mathlib.Core.List.{List, [], _∷_, _++_, map, flatMap, List·Memᴰ·head, List·Memᴰ·tail, List·Memᴰ·cases-cons, List·Memᴰ·not-nil, List·Memᴰ·append-cases, Memᴰ·append-left, Memᴰ·append-right, Memᴰ·map, Memᴰ·of-map, Memᴰ·cast}
+use Prim.Native.Nat.{ℕ, zero, suc, _≤_, _<_}
 use native.Mathlib.Omega.{arith}
 use native.Mathlib.Decide.{ℕ-discrete}
 use lib.Dec.{eqb}
@@ -14,8 +14,8 @@ use Rattle.semantics.specs.RuleSet.{RuleSet}
 use Rattle.semantics.specs.Heap.{Heap, wholeOf}
 use Rattle.semantics.specs.Domain.{domain}
 use Rattle.semantics.specs.Fact.{fact}
-use Rattle.semantics.specs.Rounds.{Follows, Complete, Holds}
-use Rattle.semantics.specs.Certificate.{factAt, LineHolds, Certificate, Trimmed}
+use Rattle.semantics.specs.Rounds.{Complete, Holds}
+use Rattle.semantics.specs.Certificate.{factAt, Trimmed}
 use Rattle.semantics.proofs.DomainFacts.{member-false}
 use Rattle.semantics.proofs.FixedPoint.{holds-closed, complete-has}
 use Rattle.semantics.proofs.Evaluator.{when, both, Step, steps, every}

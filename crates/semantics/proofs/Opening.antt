@@ -1,22 +1,21 @@
 -- What the conditions for lines take opens into a finished unfolding by hand.
-use mathlib.Core.Path.{_≡_, refl, sym, ap, ap₂, _∙_}
-use mathlib.Core.Logic.{_⊎_, inl, inr, ⊎-elim}
-use mathlib.Core.List.{List, [], _∷_, _++_, map, List·Memᴰ, List·Memᴰ·head, List·Memᴰ·tail, Memᴰ·append-left, Memᴰ·of-map, Memᴰ·cast}
-use Prim.Native.Nat.{ℕ, zero, suc, _+_, _*_, _^_, _≤_, _<_}
+use mathlib.Core.Path.{_≡_, refl, sym, ap, _∙_}
+use mathlib.Core.List.{List, [], _∷_, _++_, map, List·Memᴰ·head, List·Memᴰ·tail, Memᴰ·append-left, Memᴰ·of-map, Memᴰ·cast}
+use Prim.Native.Nat.{ℕ, zero, suc, _+_, _≤_, _<_}
 use native.Mathlib.Omega.{arith}
-use lib.ListN.{length, getD, length-append, length-map}
+use lib.ListN.{length, length-append, length-map}
 use lib.Bits.{bitAnd}
 use Rattle.semantics.specs.Lists.{_∈_, Distinct}
-use Rattle.semantics.specs.RuleSet.{Term, Call, Rule, RuleSet, arity, variables, fixedValues, WellFormed}
+use Rattle.semantics.specs.RuleSet.{Call, RuleSet, arity, variables}
 use Rattle.semantics.specs.Heap.{Heap, setOf, wholeOf, Joins}
 use Rattle.semantics.specs.Formats.{Valid}
 use Rattle.semantics.specs.Tree.{valueOf, valuesOf, Tree, Forest, Fits}
 use Rattle.semantics.specs.Domain.{domain}
 use Rattle.semantics.specs.Fact.{fact, partOf}
-use Rattle.semantics.specs.Rounds.{Called, Ground}
-use Rattle.semantics.specs.Certificate.{factAt, Written, LineHolds, Certificate, Opens, OpensAll, Opened}
+use Rattle.semantics.specs.Rounds.{Called}
+use Rattle.semantics.specs.Certificate.{factAt, LineHolds, Certificate, OpensAll, Opened}
 use Rattle.semantics.proofs.Bits.{setOf-append, whole-below, whole-members}
-use Rattle.semantics.proofs.Parts.{small-part, Rest, atoms-joins, tree-joins}
+use Rattle.semantics.proofs.Parts.{small-part, atoms-joins, tree-joins}
 use Rattle.semantics.proofs.Limits.{Limits}
 use Rattle.semantics.proofs.DomainFacts.{good-is-domain, query-good}
 use Rattle.semantics.proofs.Soundness.{Stands, shown-of, value-domain, ScopedCall}

@@ -1,16 +1,16 @@
 -- Records taken in a tree, and the disjoint join of parts as numbers.
-use mathlib.Core.Path.{_≡_, refl, sym, ap, ap₂, _∙_}
-use mathlib.Core.Logic.{_⊎_, inl, inr, ⊎-elim}
-use mathlib.Core.List.{List, [], _∷_, _++_, map, List·Memᴰ, List·Memᴰ·head, List·Memᴰ·tail, List·Memᴰ·cases-cons, List·Memᴰ·not-nil, Memᴰ·cast, List·Memᴰ·append-cases}
-use Prim.Native.Nat.{ℕ, zero, suc, _+_, _*_, _^_, _≤_, _<_}
+use mathlib.Core.Path.{_≡_, refl, sym}
+use mathlib.Core.Logic.{⊎-elim}
+use mathlib.Core.List.{List, [], _∷_, _++_, map, List·Memᴰ·head, List·Memᴰ·cases-cons, List·Memᴰ·not-nil, Memᴰ·cast, List·Memᴰ·append-cases}
+use Prim.Native.Nat.{ℕ, _^_, _≤_, _<_}
 use native.Mathlib.Omega.{arith}
 use native.Mathlib.Nat.{add-zero}
-use lib.ListN.{length, getD}
+use lib.ListN.{length}
 use lib.Bits.{bitAnd}
 use Rattle.semantics.specs.Lists.{_∈_, Distinct}
 use Rattle.semantics.specs.RuleSet.{RuleSet, PointsTo, Call}
 use Rattle.semantics.specs.Heap.{Heap, setOf, Joins}
-use Rattle.semantics.specs.Tree.{Takes, Applies, Tree, Forest}
+use Rattle.semantics.specs.Tree.{Takes, Tree, Forest}
 use Rattle.semantics.proofs.Bits.{apart-and, and-apart, distinct-apart, distinct-left, distinct-right, distinct-append, setOf-append, setOf-below}
 
 -- every record taken is one of the heap

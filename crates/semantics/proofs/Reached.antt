@@ -1,28 +1,20 @@
 -- There is always a complete table; it has no fact twice; and "more facts than n" is that its length is above n.
-use mathlib.Core.Path.{_≡_, refl, sym, ap, ap₂, _∙_}
-use mathlib.Core.Logic.{_≢_, _↔_, _⊎_, inl, inr, ⊎-elim}
-use mathlib.Core.List.{List, [], _∷_, _++_, map, List·Memᴰ, List·Memᴰ·head, List·Memᴰ·tail, List·Memᴰ·cases-cons, List·Memᴰ·not-nil, List·Memᴰ·append-cases, Memᴰ·cast}
-use Prim.Native.Nat.{ℕ, zero, suc, _+_, _*_, _^_, _≤_, _<_}
+use mathlib.Core.Path.{_≡_}
+use mathlib.Core.Logic.{_↔_}
+use mathlib.Core.List.{List}
+use Prim.Native.Nat.{ℕ, _<_}
 use native.Mathlib.Omega.{arith}
 use native.Mathlib.Decide.{decLt}
-use lib.ListN.{length, length-append}
-use Rattle.semantics.specs.Lists.{_∈_, Distinct, Ascending}
-use Rattle.semantics.specs.RuleSet.{RuleSet, arity, WellFormed}
-use Rattle.semantics.specs.Heap.{Heap, wholeOf}
+use lib.ListN.{length}
+use Rattle.semantics.specs.Lists.{_∈_}
+use Rattle.semantics.specs.Heap.{wholeOf}
 use Rattle.semantics.specs.Formats.{Input, WellFormedInput}
-use Rattle.semantics.specs.Tree.{Tree, Applies, Fits}
-use Rattle.semantics.specs.Domain.{domain}
-use Rattle.semantics.specs.Fact.{position, code, fact}
-use Rattle.semantics.specs.Rounds.{Ground, Follows, Table, After, Complete, Holds, MoreThan}
-use Rattle.semantics.specs.Contract.{domainOf, HoldsInput, FitsInput, MoreFactsThan, CompletedInput}
-use Rattle.semantics.proofs.Bits.{decIn, distinct-append}
+use Rattle.semantics.specs.Fact.{fact}
+use Rattle.semantics.specs.Contract.{domainOf, FitsInput, MoreFactsThan, CompletedInput}
+use Rattle.semantics.proofs.Bits.{decIn}
 use Rattle.semantics.proofs.Pigeon.{pigeon}
-use Rattle.semantics.proofs.Order.{tail-ascending, head-below}
-use Rattle.semantics.proofs.FixedPoint.{holds-follows, table-holds, complete-has, complete-unique}
-use Rattle.semantics.proofs.Soundness.{Sound, sound, part-small}
-use Rattle.semantics.proofs.Verdict.{limits, verdict}
-use Rattle.semantics.proofs.Evaluator.{newFacts}
-use Rattle.semantics.proofs.Evaluation.{new-facts, new-ascending}
+use Rattle.semantics.proofs.FixedPoint.{table-holds, complete-has, complete-unique}
+use Rattle.semantics.proofs.Verdict.{verdict}
 use Rattle.semantics.proofs.Termination.{completed, table-distinct}
 
 pub completed-exists : (i : Input) → WellFormedInput i → (rounds : ℕ) × (facts : List ℕ) × CompletedInput i rounds facts

@@ -2,11 +2,10 @@
 -- passes it is true.
 use mathlib.Core.Bool.{Bool, true, false, false≢true}
 use mathlib.Core.Path.{_≡_, refl, sym, ap, _∙_}
-use mathlib.Core.List.{List, [], _∷_, _++_, map, flatMap}
-use Prim.Native.Nat.{ℕ, suc, _+_, _-_, _≤_, _<_}
-use native.Mathlib.Omega.{arith}
+use mathlib.Core.List.{List, [], _∷_, flatMap}
+use Prim.Native.Nat.{ℕ, _-_}
 use lib.ListN.{length, getD}
-use lib.Dec.{eqb, leb, ltb}
+use lib.Dec.{eqb, leb}
 use borrow.Author.Tests.{eqb-true, leb-true}
 use Rattle.semantics.specs.Lists.{_∈_, member, digits, digitsOf}
 use Rattle.semantics.specs.Heap.{heapValues, wholeOf}
@@ -15,12 +14,12 @@ use Rattle.semantics.specs.Formats.{readRuleSet, readSnapshot, records, 
 use Rattle.semantics.specs.Domain.{firstOutside, spares, insert, ascending, mostVariables, domain}
 use Rattle.semantics.specs.Fact.{position, code, fact}
 use Rattle.semantics.specs.Rounds.{After}
-use Rattle.semantics.specs.Contract.{domainOf, FitsInput, TrimmedInput, CompletedInput, Completed}
+use Rattle.semantics.specs.Contract.{domainOf, FitsInput, CompletedInput}
 use Rattle.semantics.specs.Rows.{Row, RowTrue, Verdict, LinesShown, LastShown, rows, Fault, faults}
 use Rattle.semantics.proofs.DomainFacts.{member-true, member-out}
 use Rattle.semantics.proofs.Verdict.{verdict}
 use Rattle.semantics.proofs.FormatsFacts.{ladder-read}
-use Rattle.semantics.proofs.Evaluator.{when, both, every, sameList, sameRecord, assignments, compares, meetsAll, finds, takings, answers, callings, joined, byFacts, byRecords, byTest, byValues, byArguments, byRule, Step, steps, following, dropKnown, newFacts, run, Run}
+use Rattle.semantics.proofs.Evaluator.{when, both, every, sameList, sameRecord, assignments, compares, meetsAll, finds, takings, answers, callings, joined, byFacts, byRecords, byTest, byValues, byArguments, byRule, steps, following, dropKnown, newFacts, run, Run}
 use Rattle.semantics.proofs.Evaluation.{both-out, every-out, Done, run-done}
 use Rattle.semantics.proofs.LineCount.{ways, leave, isEmpty, isSome, avoids, exactly, line-count}
 use Rattle.semantics.proofs.Existence.{trimmed-exists}

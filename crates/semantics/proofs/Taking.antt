@@ -1,26 +1,25 @@
 -- The test takes words exactly if the conditions for lines hold.
-use mathlib.Core.Bool.{Bool, true, false, false≢true}
-use mathlib.Core.Path.{_≡_, refl, sym, ap, ap₂, _∙_, subst}
-use mathlib.Core.Logic.{_≢_, _↔_, _⊎_, inl, inr, ⊎-elim}
-use mathlib.Core.List.{List, [], _∷_, _++_, map, flatMap, List·Memᴰ, List·Memᴰ·head, List·Memᴰ·tail, List·Memᴰ·cases-cons, List·Memᴰ·not-nil, Memᴰ·append-left, Memᴰ·append-right, Memᴰ·map, Memᴰ·of-map, Memᴰ·cast}
-use Prim.Native.Nat.{ℕ, zero, suc, _+_, _-_, _*_, _/_, _%_, _^_, _≤_, _<_, min}
+use mathlib.Core.Bool.{true, false≢true}
+use mathlib.Core.Path.{_≡_, refl, sym, ap, ap₂, _∙_}
+use mathlib.Core.Logic.{_↔_}
+use mathlib.Core.List.{List, [], _∷_, _++_, map, List·Memᴰ·head, List·Memᴰ·tail, Memᴰ·map, Memᴰ·of-map, Memᴰ·cast}
+use Prim.Native.Nat.{ℕ, zero, suc, _+_, _*_, _/_, _%_, _^_, _≤_, _<_}
 use native.Mathlib.Omega.{arith}
 use native.Mathlib.Decide.{ℕ-discrete}
 use lib.ListN.{length, getD, take, drop, length-append, length-map, length-take, length-drop, take-append-drop}
 use lib.Dec.{eqb, leb, ltb}
 use borrow.Author.Tests.{eq-eqb, eqb-true, leb-true, ltb-true, lt-ltb, le-leb}
-use Rattle.semantics.specs.Lists.{_∈_, member, Ascending, digits, digitsOf}
+use Rattle.semantics.specs.Lists.{_∈_, Ascending, digits, digitsOf}
 use Rattle.semantics.specs.RuleSet.{Call, Rule, RuleSet, arity, variables, blankRule}
-use Rattle.semantics.specs.Heap.{Heap, Joins}
-use Rattle.semantics.specs.Tree.{valuesOf, Applies, Takes}
+use Rattle.semantics.specs.Heap.{Heap}
+use Rattle.semantics.specs.Tree.{valuesOf}
 use Rattle.semantics.specs.Fact.{position, fact, partOf}
 use Rattle.semantics.specs.Rounds.{Called, Ground}
-use Rattle.semantics.specs.Certificate.{factAt, positionsAt, ruleAt, Written, LineHolds, Certificate}
-use Rattle.semantics.proofs.Bits.{decIn}
+use Rattle.semantics.specs.Certificate.{factAt, positionsAt, ruleAt, LineHolds, Certificate}
 use Rattle.semantics.proofs.Digits.{digitsOf-length, digits-back}
 use Rattle.semantics.proofs.Coding.{getD-in, position-below, position-at, values-back}
 use Rattle.semantics.proofs.DomainFacts.{member-true, member-out}
-use Rattle.semantics.proofs.Evaluator.{both, meetsAll, takings, joined, every}
+use Rattle.semantics.proofs.Evaluator.{meetsAll, takings, joined}
 use Rattle.semantics.proofs.Evaluation.{every-in, every-out, both-in, both-out, flat-in, flat-out, meetsAll-in, meetsAll-out, takings-in, takings-out, joined-in, joined-out}
 use Rattle.semantics.proofs.CertificateTest.{ruleOf, positionsOf, valuesAt, callsOf, callsTest, conclusions, earlierTest, positionTest, lineTest, takesLine, takesLines, takes}
 

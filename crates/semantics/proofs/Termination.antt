@@ -1,25 +1,24 @@
 -- There is a complete table: each round adds a fact, and facts have 48 bits. So verdict, facts and rounds are defined for every query.
-use mathlib.Core.Path.{_≡_, refl, sym, ap, _∙_, subst}
-use mathlib.Core.Logic.{_≢_, _↔_, _⊎_, inl, inr, ⊎-elim}
-use mathlib.Core.List.{List, [], _∷_, _++_, map, List·Memᴰ, List·Memᴰ·head, List·Memᴰ·tail, List·Memᴰ·cases-cons, List·Memᴰ·not-nil, List·Memᴰ·append-cases}
+use mathlib.Core.Path.{_≡_, refl, subst}
+use mathlib.Core.List.{List, [], _∷_, _++_, map, List·Memᴰ·head, List·Memᴰ·not-nil}
 use Prim.Native.Nat.{ℕ, zero, suc, _+_, _^_, _≤_, _<_}
 use native.Mathlib.Omega.{arith}
 use lib.ListN.{length, length-append}
 use Rattle.semantics.specs.Lists.{_∈_, Distinct, Ascending}
-use Rattle.semantics.specs.RuleSet.{RuleSet, WellFormed}
+use Rattle.semantics.specs.RuleSet.{RuleSet}
 use Rattle.semantics.specs.Heap.{Heap}
 use Rattle.semantics.specs.Formats.{Valid}
 use Rattle.semantics.specs.Domain.{domain}
 use Rattle.semantics.specs.Fact.{position}
-use Rattle.semantics.specs.Rounds.{After, Complete, Follows, Table, Holds}
+use Rattle.semantics.specs.Rounds.{After, Follows, Table, Holds}
 use Rattle.semantics.specs.Contract.{Completed}
 use Rattle.semantics.proofs.Bits.{decIn, distinct-append}
 use Rattle.semantics.proofs.Pigeon.{shorter}
 use Rattle.semantics.proofs.Order.{tail-ascending, head-below}
 use Rattle.semantics.proofs.Coding.{short-positions, code-below}
 use Rattle.semantics.proofs.DomainFacts.{upward, upward-length, upward-all}
-use Rattle.semantics.proofs.FixedPoint.{table-holds, holds-closed, follows-more}
-use Rattle.semantics.proofs.Soundness.{Stands, sound, part-small}
+use Rattle.semantics.proofs.FixedPoint.{table-holds}
+use Rattle.semantics.proofs.Soundness.{sound, part-small}
 use Rattle.semantics.proofs.Verdict.{limits}
 use Rattle.semantics.proofs.Evaluator.{newFacts}
 use Rattle.semantics.proofs.Evaluation.{new-facts, new-ascending}

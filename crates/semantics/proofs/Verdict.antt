@@ -1,27 +1,26 @@
 -- Soundness and completeness over the domain of a query, and the verdict: the complete table has the query's fact exactly if it fits by hand.
-use mathlib.Core.Path.{_≡_, refl, sym, ap, ap₂, _∙_}
+use mathlib.Core.Path.{_≡_, sym, ap, _∙_}
 use mathlib.Core.Logic.{_↔_}
-use mathlib.Core.List.{List, [], _∷_, _++_, map}
-use Prim.Native.Nat.{ℕ, zero, suc, _+_, _-_, _^_, _≤_, _<_}
+use mathlib.Core.List.{List, map}
+use Prim.Native.Nat.{ℕ, _<_}
 use native.Mathlib.Omega.{arith}
 use lib.ListN.{length, length-map}
-use Rattle.semantics.specs.Lists.{_∈_, Distinct}
-use Rattle.semantics.specs.RuleSet.{RuleSet, arity, fixedValues, WellFormed}
-use Rattle.semantics.specs.Heap.{Heap, setOf, wholeOf}
+use Rattle.semantics.specs.Lists.{_∈_}
+use Rattle.semantics.specs.RuleSet.{RuleSet, arity}
+use Rattle.semantics.specs.Heap.{Heap, wholeOf}
 use Rattle.semantics.specs.Formats.{Valid}
-use Rattle.semantics.specs.Tree.{Tree, ByHand, Fits}
+use Rattle.semantics.specs.Tree.{ByHand, Fits}
 use Rattle.semantics.specs.Domain.{good, sparesOf, domain}
 use Rattle.semantics.specs.Fact.{fact, position, partOf, predicateOf, positionsOf, valuesAt}
-use Rattle.semantics.specs.Rounds.{After, Complete, Holds}
+use Rattle.semantics.specs.Rounds.{After, Complete}
 use Rattle.semantics.proofs.Bits.{bit, bit-in, bit-out, decIn, whole-set, whole-members, whole-below}
 use Rattle.semantics.proofs.Coding.{short-positions, code-predicate, code-part, code-positions, values-back}
-use Rattle.semantics.proofs.Parts.{tree-below, small-part}
+use Rattle.semantics.proofs.Parts.{tree-below}
 use Rattle.semantics.proofs.Limits.{Limits}
 use Rattle.semantics.proofs.Completeness.{Setting, by-hand-holds}
-use Rattle.semantics.proofs.DomainFacts.{setting-of, good-is-domain, query-good, domain-length}
+use Rattle.semantics.proofs.DomainFacts.{setting-of, good-is-domain, query-good}
 use Rattle.semantics.proofs.FixedPoint.{table-holds, complete-has}
-use Rattle.semantics.proofs.Soundness.{Stands, Sound, sound, sound-fact, part-small}
-use mathlib.Core.List.{Memᴰ·append-left}
+use Rattle.semantics.proofs.Soundness.{Sound, sound, sound-fact, part-small}
 
 -- the records of a tree are the bits of its part
 pub by-hand-bits : {ruleSet : RuleSet} {heap : Heap} {p : ℕ} {vs : List ℕ} {part : ℕ} (h : ByHand ruleSet heap p vs part) (i : ℕ) → (i ∈ h .taken) ↔ (bit part i ≡ 1)

@@ -1,17 +1,12 @@
 -- The words of a certificate are 64-bit words.
-use mathlib.Core.Path.{_≡_, refl, sym, ap, _∙_}
-use mathlib.Core.List.{List, [], _∷_, _++_, map, List·Memᴰ, List·Memᴰ·head, List·Memᴰ·tail, List·Memᴰ·not-nil, Memᴰ·of-map}
-use Prim.Native.Nat.{ℕ, zero, suc, _+_, _*_, _^_, _≤_, _<_}
+use mathlib.Core.List.{List, _++_, map, Memᴰ·of-map}
+use Prim.Native.Nat.{ℕ, zero, suc, _≤_, _<_}
 use native.Mathlib.Omega.{arith}
-use native.Mathlib.Nat.{pow-suc}
-use lib.ListN.{length, getD, length-append, length-map}
-use Rattle.semantics.specs.Lists.{_∈_, digits}
-use Rattle.semantics.specs.RuleSet.{RuleSet, Rule, arity, variables}
-use Rattle.semantics.specs.Heap.{wholeOf}
+use lib.ListN.{length, length-append, length-map}
 use Rattle.semantics.specs.Formats.{Input, WellFormedInput}
 use Rattle.semantics.specs.Fact.{position}
-use Rattle.semantics.specs.Rounds.{Holds, Follows, Called}
-use Rattle.semantics.specs.Certificate.{factAt, positionsAt, ruleAt, LineHolds, Certificate}
+use Rattle.semantics.specs.Rounds.{Holds}
+use Rattle.semantics.specs.Certificate.{factAt, positionsAt, ruleAt}
 use Rattle.semantics.specs.Contract.{domainOf, CertificateInput}
 use Rattle.semantics.proofs.Digits.{digits-below}
 use Rattle.semantics.proofs.Coding.{position-below}
