@@ -45,7 +45,7 @@ module _ {rules records : List ℕ} {n facts rounds : ℕ} {table : List ℕ} (s
     fitting {space} {space′} {at} {lines} three place l built =
         let is-fact : codeOf (getD table at 0) ≡ fact (domainIn rules heap values) predicate values (wholeOf heap) = place .found l ∙ is-last in
         let c = built .certifies heap values facts rep
-        (layered (ruleSetIn rules) heap (domainIn rules heap values) table (sat .old) facts rounds (sat .tagged) (sat .rests heap values rep)) l predicate values (wholeOf heap) is-fact in
+        (layered (ruleSetIn rules) heap (domainIn rules heap values) table (sat .old) facts rounds (sat .tagged) (sat .ordered) (sat .rests heap values rep)) l predicate values (wholeOf heap) is-fact in
         let m = Memᴰ·cast (sym (fact-at table facts at l ∙ is-fact)) (getD-in (factsIn table facts) at (omega (arith, counted-facts))) in
         Answers.fits rounds (factsIn table facts) (c .words) filled (iff .0 m) (c .trimmed)
         (ap₂ (λ (k m : ℕ). record { refusal = 0; verdict = 1; facts = k; rounds = rounds; lines = m }) (sym counted-facts) (c .counted))

@@ -1,38 +1,28 @@
 -- The table after the rounds: its facts come round by round, each from those of earlier rounds, as the builder of certificates asks.
 use mathlib.Core.Path.{_≡_, sym, _∙_}
 use mathlib.Core.Logic.{_≢_}
-use mathlib.Core.List.{List, _∷_, Memᴰ·cast}
-use Prim.Native.Nat.{ℕ, zero, suc, _<_}
+use mathlib.Core.List.{List}
+use Prim.Native.Nat.{ℕ, _<_}
 use native.Mathlib.Omega.{arith}
-use lib.ListN.{length, getD, take}
+use lib.ListN.{getD, take}
 use lib.Seq.{getD-take, length-take-le}
-use Rattle.semantics.specs.Lists.{_∈_, Distinct}
+use Rattle.semantics.specs.Lists.{_∈_, Ascending}
 use Rattle.semantics.specs.RuleSet.{RuleSet}
 use Rattle.semantics.specs.Heap.{Heap}
-use Rattle.semantics.proofs.Coding.{getD-in}
 use Rattle.semantics.proofs.FixedPoint.{follows-more}
 use Rattle.table.specs.Table.{factsIn, Tagged}
 use Rattle.table.specs.Layered.{codeAt, EarlierFact, Layered}
-use Rattle.table.proofs.Places.{place-of, rising}
+use Rattle.table.proofs.Places.{place-of, rising, differ}
 use Rattle.table.proofs.Passes.{facts-length}
 use Rattle.table.proofs.Rounds.{fact-at}
 use Rattle.fixpoint.specs.Fixpoint.{Rests}
 
-first : (x : ℕ) (xs : List ℕ) → ¬ (x ∈ xs) → (j : ℕ) → j < length xs → x ≡ getD xs j 0 → ⊥
-first x xs n j l e = n (Memᴰ·cast e (getD-in xs j l))
-
--- two places of a list without repeat hold different numbers
-differ : (xs : List ℕ) → Distinct xs → (i j : ℕ) → i < j → j < length xs → getD xs i 0 ≢ getD xs j 0
-differ xs Distinct.none i j h l = absurd (omega arith)
-differ (x ∷ xs) (Distinct.next n d) i zero h l = absurd (omega arith)
-differ (x ∷ xs) (Distinct.next n d) zero (suc j) h l = λ e. first x xs n j (omega arith) e
-differ (x ∷ xs) (Distinct.next n d) (suc i) (suc j) h l = differ xs d i j (omega arith) (omega arith)
-
-module _ (ruleSet : RuleSet) (heap : Heap) (domain table : List ℕ) (old facts rounds : ℕ) (tagged : Tagged table old facts rounds) where
+module _ (ruleSet : RuleSet) (heap : Heap) (domain table : List ℕ) (old facts rounds : ℕ) (tagged : Tagged table old facts rounds)
+    (ascending : Ascending (take facts table)) where
   word-below : (i j : ℕ) → i < j → j < facts → getD table i 0 < getD table j 0
   word-below i j h l =
       let long = length-take-le facts table (tagged .within) in
-      let r = rising (take facts table) (tagged .ordered) i j h (omega arith) in
+      let r = rising (take facts table) ascending i j h (omega arith) in
       omega (arith, r, getD-take facts table i 0 (omega arith), getD-take facts table j 0 l)
 
   code-differs : (i j : ℕ) → i < j → j < facts → codeAt table i ≢ codeAt table j
