@@ -8,9 +8,7 @@ use Rattle.semantics.specs.Lists.{zeros}
 use Rattle.semantics.specs.Contract.{Lent, refusalReply, Answers, Decided}
 use Rattle.semantics.specs.declared.Reply.{Reply}
 use Rattle.words.specs.Block.{inputIn}
-use Rattle.fixpoint.specs.Fixpoint.{Ran, Saturated, Overflows}
-use Rattle.fixpoint.specs.declared.Outcome.{Outcome}
-use Rattle.fixpoint.specs.declared.Outcome.the-variants.{Done, Over}
+use Rattle.fixpoint.specs.Fixpoint.{Overflows}
 use Rattle.formats.specs.Refusal.{Read}
 use Rattle.formats.specs.declared.Ladder.{Ladder}
 use Rattle.formats.specs.declared.Ladder.the-variants.{Accepted, Refused}
@@ -21,12 +19,6 @@ use Rattle.engine.proofs.Concluding.{overflowed}
 
 pub lent-same : {a b a′ b′ : ℕ} → a′ ≡ a → b′ ≡ b → Lent a b → Lent a′ b′
 lent-same e f l = record { some = omega (arith, l .some); most = omega (arith, l .most); three = omega (arith, l .three) }
-
-pub is-done : (rules records table : List ℕ) (n : ℕ) {facts rounds : ℕ} (o : Outcome) → Ran rules records n table o → o ≡ Done facts rounds → Saturated rules records n table facts rounds
-is-done rules records table n o h e = rw e at h
-
-pub is-over : (rules records table : List ℕ) (n : ℕ) (o : Outcome) → Ran rules records n table o → o ≡ Over → Overflows rules records n (length table)
-is-over rules records table n o h e = rw e at h
 
 module _ (rules records heap query : List ℕ) (n last : ℕ) (s : Stands rules records n last (inputIn rules heap query)) where
   pub answered : {lines : ℕ} {reply : Reply} {table space : List ℕ} → Evaluated rules records n last lines reply table space → Answers (inputIn rules heap query) lines reply table space

@@ -1,7 +1,8 @@
 -- `answer` meets its contract: the rounds fill the table, with the unfolding space lent for its index; then comes the verdict, or refusal 11.
 use mathlib.Core.Path.{_∙_}
 use native.Mathlib.Omega.{arith}
-use Rattle.engine.proofs.Answering.{lent-same, is-done, is-over, answered, over-answered}
+use Rattle.engine.proofs.Answering.{lent-same, answered, over-answered}
+use Rattle.fixpoint.proofs.Settled.{ran-done, ran-over}
 use Rattle.search.proofs.ReadyBlocks.{ready-of}
 use borrow.Author.Needs.{needs}
 use Rattle.engine.proofs.answer.Statement.{statement}
@@ -40,7 +41,7 @@ conclude-requires c κs =
     let a = c .before .before .before .before .before .before .before .before .before .before .run in
     record {
       ready = ready-of _ _ _ _ _ (c .before .before .before .before .before .before .before .before .before .before .before .before .before .before .place .ensures .represents);
-      saturated = is-done _ _ _ _ _ (a .ensures .0) (c .before .before .before .before .facts .given .1);
+      saturated = ran-done _ _ _ _ _ (a .ensures .0) _ _ (c .before .before .before .before .facts .given .1);
       lent = lent-same (a .kept .1 .1 .1 .0) (a .ensures .1) (c .before .before .before .before .before .before .before .before .before .before .before .before .before .before .before .before .before .before .pre .2);
     }
 
@@ -55,7 +56,7 @@ returns c =
     let s = c .before .before .before .before .before .before .before .before .before .before .before .before .before .before .before .before .before .before .before .before .before .before .before in
     let a = c .before .before .before .before .before .before .before .before .before .before .before .before .before .before .before .run in
     over-answered (s .args .rules .now) _ (s .args .heap .now) (s .args .query .now) _ _ (c .before .before .before .before .before .before .before .before .before .before .before .before .before .before .before .before .before .before .before .place .ensures)
-    (is-over _ _ _ _ _ (a .ensures .0) (c .before .before .before .before .before .before .before .before .before .enum-told .given .1)) (a .kept .1 .1 .1 .0) (a .ensures .1 ∙ s .pre .2 .three) (c .refuse .ensures)
+    (ran-over _ _ _ _ _ (a .ensures .0) (c .before .before .before .before .before .before .before .before .before .enum-told .given .1)) (a .kept .1 .1 .1 .0) (a .ensures .1 ∙ s .pre .2 .three) (c .refuse .ensures)
     (c .before .before .before .before .before .before .before .clear .ensures) (c .before .before .before .clear2 .ensures)
 
 same-length-3 : tie.Need-same-length-3
