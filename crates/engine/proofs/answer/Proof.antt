@@ -11,15 +11,9 @@ use Rattle.engine.proofs.answer.Tie as tie
 place-requires : tie.Need-place-requires
 place-requires c κs = search needs
 
-run-requires : tie.Need-run-requires
-run-requires c κs =
-    let l = c .before .before .before .before .before .before .before .pre .2 in
-    record {
-      ready = ready-of _ _ _ _ _ (c .before .before .before .place .ensures .represents);
-      lines = l .most;
-      some = omega (arith, l .some, l .three);
-      few = omega (arith, l .most, l .three);
-    }
+saturate-requires : tie.Need-saturate-requires
+saturate-requires c κs =
+    (ready-of _ _ _ _ _ (c .before .before .before .place .ensures .represents), c .before .before .before .before .before .before .before .pre .2)
 
 enum-told : tie.Need-enum-told
 enum-told c = search needs
@@ -38,11 +32,11 @@ enum-known-facts c = search needs
 
 conclude-requires : tie.Need-conclude-requires
 conclude-requires c κs =
-    let a = c .before .before .before .before .before .before .before .before .before .before .run in
+    let a = c .before .before .before .before .before .before .before .before .before .before .saturate in
     record {
       ready = ready-of _ _ _ _ _ (c .before .before .before .before .before .before .before .before .before .before .before .before .before .before .place .ensures .represents);
       saturated = ran-done _ _ _ _ _ (a .ensures .0) _ _ (c .before .before .before .before .facts .given .1);
-      lent = lent-same (a .kept .1 .1 .1 .0) (a .ensures .1) (c .before .before .before .before .before .before .before .before .before .before .before .before .before .before .before .before .before .before .pre .2);
+      lent = lent-same (a .kept .1 .1 .1 .0) (a .ensures .2) (c .before .before .before .before .before .before .before .before .before .before .before .before .before .before .before .before .before .before .pre .2);
     }
 
 same-length : tie.Need-same-length
@@ -54,9 +48,9 @@ same-length-2 c = search needs
 returns : tie.Need-returns
 returns c =
     let s = c .before .before .before .before .before .before .before .before .before .before .before .before .before .before .before .before .before .before .before .before .before .before .before in
-    let a = c .before .before .before .before .before .before .before .before .before .before .before .before .before .before .before .run in
+    let a = c .before .before .before .before .before .before .before .before .before .before .before .before .before .before .before .saturate in
     over-answered (s .args .rules .now) _ (s .args .heap .now) (s .args .query .now) _ _ (c .before .before .before .before .before .before .before .before .before .before .before .before .before .before .before .before .before .before .before .place .ensures)
-    (ran-over _ _ _ _ _ (a .ensures .0) (c .before .before .before .before .before .before .before .before .before .enum-told .given .1)) (a .kept .1 .1 .1 .0) (a .ensures .1 ∙ s .pre .2 .three) (c .refuse .ensures)
+    (ran-over _ _ _ _ _ (a .ensures .0) (c .before .before .before .before .before .before .before .before .before .enum-told .given .1)) (a .kept .1 .1 .1 .0) (a .ensures .2 ∙ s .pre .2 .three) (c .refuse .ensures)
     (c .before .before .before .before .before .before .before .clear .ensures) (c .before .before .before .clear2 .ensures)
 
 same-length-3 : tie.Need-same-length-3
@@ -68,7 +62,7 @@ same-length-4 c = search needs
 returns-2 : tie.Need-returns-2
 returns-2 c =
     let s = c .before .before .before .before .before .before .before .before .before .before .before .before .before .before .before .before .before .before .before .before .before .before .before in
-    rw (← c .before .before .before .before .before .before .before .before .before .before .before .before .before .before .before .run .kept .1 .1 .1 .0)
+    rw (← c .before .before .before .before .before .before .before .before .before .before .before .before .before .before .before .saturate .kept .1 .1 .1 .0)
     (answered (s .args .rules .now) _ (s .args .heap .now) (s .args .query .now) _ _ (c .before .before .before .before .before .before .before .before .before .before .before .before .before .before .before .before .before .before .before .place .ensures) (c .before .before .before .before .conclude .ensures))
 
 pub answer-spec : {M : Type 1} → statement M
@@ -76,7 +70,7 @@ answer-spec =
     tie.close
     (tie.spec
     place-requires
-    run-requires
+    saturate-requires
     enum-told
     clear-requires
     clear-requires-2
