@@ -1,3 +1,5 @@
+-- `gather` meets its contract. After i turns the lines of the first i places stand where their numbers say. A number is never beyond its
+-- place, so a line that is written never hits a place that is still to be read.
 use Prim.Native.Nat.{suc, _-_}
 use mathlib.Core.Logic.{⊎-elim}
 use native.Mathlib.Omega.{arith}
@@ -15,63 +17,48 @@ Inv-loop table at space₀ i₀ space i = GatheredTo table at space₀ i space
 abbrev μ-loop : tie.MeasureT-loop
 μ-loop table at space₀ i₀ space i = suc at - i
 
--- src/lib.rt:83:5
 loop-holds : tie.Need-loop-holds Inv-loop μ-loop
 loop-holds c = let s = c .before .before in gathered-none (s .args .table .now) (s .args .at) (s .args .space .now) (s .pre .1)
 
--- src/lib.rt:84:26
 mul-line : tie.Need-mul-line Inv-loop μ-loop
 mul-line c = search needs
 
--- src/lib.rt:84:20
 mul-line-2 : tie.Need-mul-line-2 Inv-loop μ-loop
 mul-line-2 c = search needs
 
--- src/lib.rt:84:20
 slice-read-line : tie.Need-slice-read-line Inv-loop μ-loop
 slice-read-line c = search needs
 
--- src/lib.rt:86:35
 mul-positions : tie.Need-mul-positions Inv-loop μ-loop
 mul-positions c = search needs
 
--- src/lib.rt:86:35
 add-positions : tie.Need-add-positions Inv-loop μ-loop
 add-positions c = search needs
 
--- src/lib.rt:86:29
 mul-positions-2 : tie.Need-mul-positions-2 Inv-loop μ-loop
 mul-positions-2 c = search needs
 
--- src/lib.rt:86:29
 slice-read-positions : tie.Need-slice-read-positions Inv-loop μ-loop
 slice-read-positions c = search needs
 
--- src/lib.rt:87:31
 mul-names : tie.Need-mul-names Inv-loop μ-loop
 mul-names c = search needs
 
--- src/lib.rt:87:31
 add-names : tie.Need-add-names Inv-loop μ-loop
 add-names c = search needs
 
--- src/lib.rt:87:25
 mul-names-2 : tie.Need-mul-names-2 Inv-loop μ-loop
 mul-names-2 c = search needs
 
--- src/lib.rt:87:25
 slice-read-names : tie.Need-slice-read-names Inv-loop μ-loop
 slice-read-names c = search needs
 
--- src/lib.rt:88:30
 mul-put : tie.Need-mul-put Inv-loop μ-loop
 mul-put c = search needs
 
--- src/lib.rt:88:30
 shared-slice-read-put : tie.Need-shared-slice-read-put Inv-loop μ-loop
 shared-slice-read-put c = search needs
 
--- src/lib.rt:88:13
 put-requires : tie.Need-put-requires Inv-loop μ-loop
 put-requires c κs =
     let s = c .before .before .before .before .before .before .before .before .before .before in
@@ -79,15 +66,12 @@ put-requires c κs =
     let taken = c .before .before .before .before .if1 .taken in
     (omega (arith, taken), line-low (s .args .table .now) (s .args .at) (s .args .space .now) (s .pre .1) (l .i) (l .space) (omega arith) (l .inv) (omega (arith, taken)) .1)
 
--- src/lib.rt:90:9
 add-i : tie.Need-add-i Inv-loop μ-loop
 add-i c = search needs
 
--- src/lib.rt:83:5
 loop-less : tie.Need-loop-less Inv-loop μ-loop
 loop-less c = search needs
 
--- src/lib.rt:83:5
 loop-again : tie.Need-loop-again Inv-loop μ-loop
 loop-again c =
     let s = c .before .before .before .before .before .before in
@@ -98,11 +82,9 @@ loop-again c =
     (λ w. rw (w .1) (gathered-free (s .args .table .now) (s .args .at) (s .args .space .now) (s .pre .1) (l .i) (l .space) (omega arith) (l .inv) (omega (arith, w .0 .left))))
     (c .if1 .came)
 
--- src/lib.rt:78:1
 same-length : tie.Need-same-length Inv-loop μ-loop
 same-length c = c .before .loop .inv .long
 
--- src/lib.rt:78:1
 returns : tie.Need-returns Inv-loop μ-loop
 returns c =
     let s = c .before .before .before .before in

@@ -1,3 +1,5 @@
+-- `number` meets its contract. After i turns the marked places below i have their line numbers, and their third words name lines. A place
+-- calls only marked places before it, whose numbers are there already.
 use lib.ListN.{length-set}
 use mathlib.Core.Logic.{⊎-elim}
 use Prim.Native.Nat.{suc, _-_}
@@ -16,86 +18,66 @@ Inv-loop space₀ at lines₀ i₀ space lines i = NumberedTo at space₀ i spac
 abbrev μ-loop : tie.MeasureT-loop
 μ-loop space₀ at lines₀ i₀ space lines i = suc at - i
 
--- src/lib.rt:55:5
 loop-holds : tie.Need-loop-holds Inv-loop μ-loop
 loop-holds c = numbered-none (c .before .args .at) (c .before .args .space .now) (c .before .pre)
 
--- src/lib.rt:56:18
 mul-if1 : tie.Need-mul-if1 Inv-loop μ-loop
 mul-if1 c = search needs
 
--- src/lib.rt:56:12
 mul-if1-2 : tie.Need-mul-if1-2 Inv-loop μ-loop
 mul-if1-2 c = search needs
 
--- src/lib.rt:56:12
 slice-read-if1 : tie.Need-slice-read-if1 Inv-loop μ-loop
 slice-read-if1 c = search needs
 
--- src/lib.rt:57:13
 add-lines : tie.Need-add-lines Inv-loop μ-loop
 add-lines c = search needs
 
--- src/lib.rt:58:19
 mul-space : tie.Need-mul-space Inv-loop μ-loop
 mul-space c = search needs
 
--- src/lib.rt:58:13
 mul-space-2 : tie.Need-mul-space-2 Inv-loop μ-loop
 mul-space-2 c = search needs
 
--- src/lib.rt:58:13
 slice-write-space : tie.Need-slice-write-space Inv-loop μ-loop
 slice-write-space c = search needs
 
--- src/lib.rt:59:46
 mul-renamed : tie.Need-mul-renamed Inv-loop μ-loop
 mul-renamed c = search needs
 
--- src/lib.rt:59:46
 add-renamed : tie.Need-add-renamed Inv-loop μ-loop
 add-renamed c = search needs
 
--- src/lib.rt:59:40
 mul-renamed-2 : tie.Need-mul-renamed-2 Inv-loop μ-loop
 mul-renamed-2 c = search needs
 
--- src/lib.rt:59:40
 slice-reshared-read-renamed : tie.Need-slice-reshared-read-renamed Inv-loop μ-loop
 slice-reshared-read-renamed c = simp length-set (omega arith)
 
--- src/lib.rt:59:17
 renamed-requires : tie.Need-renamed-requires Inv-loop μ-loop
 renamed-requires c κs =
     let s = c .before .before .before .before .before .before in
     let l = c .before .before .before .before .loop in
     called-inside (s .args .at) (s .args .space .now) (s .pre) (l .i) (l .space) (l .lines) (omega arith) (l .inv) (c .before .if1 .taken)
 
--- src/lib.rt:60:19
 mul-space-3 : tie.Need-mul-space-3 Inv-loop μ-loop
 mul-space-3 c = search needs
 
--- src/lib.rt:60:19
 add-space : tie.Need-add-space Inv-loop μ-loop
 add-space c = search needs
 
--- src/lib.rt:60:13
 mul-space-4 : tie.Need-mul-space-4 Inv-loop μ-loop
 mul-space-4 c = search needs
 
--- src/lib.rt:60:13
 slice-write-space-2 : tie.Need-slice-write-space-2 Inv-loop μ-loop
 slice-write-space-2 c = simp length-set (omega arith)
 
--- src/lib.rt:62:9
 add-i : tie.Need-add-i Inv-loop μ-loop
 add-i c = search needs
 
--- src/lib.rt:55:5
 loop-less : tie.Need-loop-less Inv-loop μ-loop
 loop-less c = search needs
 
--- src/lib.rt:55:5
 loop-again : tie.Need-loop-again Inv-loop μ-loop
 loop-again c =
     let s = c .before .before .before .before .before in
@@ -106,11 +88,9 @@ loop-again c =
     (λ w. rw (w .1, w .2) (numbered-free (s .args .at) (s .args .space .now) (s .pre) (l .i) (l .space) (l .lines) (omega arith) (l .inv) (w .0 .left)))
     (c .if1 .came)
 
--- src/lib.rt:49:1
 same-length : tie.Need-same-length Inv-loop μ-loop
 same-length c = c .before .loop .inv .long
 
--- src/lib.rt:49:1
 returns : tie.Need-returns Inv-loop μ-loop
 returns c =
     let s = c .before .before .before in

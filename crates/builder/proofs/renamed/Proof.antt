@@ -1,3 +1,4 @@
+-- `renamed` meets its contract: each of the three called places is replaced by its line's number, and the rule's number stays.
 use mathlib.Core.Path.{_∙_}
 use native.Mathlib.Omega.{arith}
 use Rattle.builder.proofs.Marks.{renamed-is}
@@ -11,39 +12,30 @@ use Rattle.words.proofs.called_of.Reads as called-of-reads
 use Rattle.words.proofs.rule_of.Reads as rule-of-reads
 use Rattle.words.proofs.rule_word.Reads as rule-word-reads
 
--- src/lib.rt:42:32
 called-of-requires : tie.Need-called-of-requires
 called-of-requires c κs = search needs
 
--- src/lib.rt:42:9
 line-of-requires : tie.Need-line-of-requires
 line-of-requires c κs = omega (arith, c .called-of .ensures, c .before .before .pre 0 (omega arith))
 
--- src/lib.rt:43:33
 called-of-requires-2 : tie.Need-called-of-requires-2
 called-of-requires-2 c κs = search needs
 
--- src/lib.rt:43:9
 line-of-requires-2 : tie.Need-line-of-requires-2
 line-of-requires-2 c κs = omega (arith, c .called-of2 .ensures, c .before .before .before .before .pre 1 (omega arith))
 
--- src/lib.rt:44:32
 called-of-requires-3 : tie.Need-called-of-requires-3
 called-of-requires-3 c κs = search needs
 
--- src/lib.rt:44:9
 line-of-requires-3 : tie.Need-line-of-requires-3
 line-of-requires-3 c κs = omega (arith, c .called-of3 .ensures, c .before .before .before .before .before .before .pre 2 (omega arith))
 
--- src/lib.rt:45:22
 rule-of-requires : tie.Need-rule-of-requires
 rule-of-requires c κs = search needs
 
--- src/lib.rt:45:5
 rule-word-requires : tie.Need-rule-word-requires
 rule-word-requires c κs = search needs
 
--- src/lib.rt:38:1
 returns : tie.Need-returns
 returns c =
     let a = c .before .before .before .before .before .before .before .before .before .args in

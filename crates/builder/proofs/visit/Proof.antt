@@ -1,3 +1,5 @@
+-- `visit` meets its contract. `ground` gives a line from the facts of earlier rounds, which are those before the first place of the
+-- round; its words are written and its called places marked.
 use Prim.Native.Nat.{_+_, _*_}
 use lib.ListN.{set}
 use Rattle.builder.specs.Space.{calledAt}
@@ -15,83 +17,66 @@ use Rattle.builder.proofs.earlier.Reads as earlier-reads
 use Rattle.builder.proofs.ground.Reads as ground-reads
 use Rattle.builder.proofs.mark.Reads as mark-reads
 
--- src/lib.rt:355:9
 earlier-requires : tie.Need-earlier-requires
 earlier-requires c κs = search needs
 
--- src/lib.rt:356:56
 mul-ground : tie.Need-mul-ground
 mul-ground c = search needs
 
--- src/lib.rt:356:56
 shared-slice-read-ground : tie.Need-shared-slice-read-ground
 shared-slice-read-ground c = search needs
 
--- src/lib.rt:356:9
 ground-requires : tie.Need-ground-requires
 ground-requires c κs = search needs
 
--- src/lib.rt:358:11
 mul-space : tie.Need-mul-space
 mul-space c = search needs
 
--- src/lib.rt:358:11
 add-space : tie.Need-add-space
 add-space c = search needs
 
--- src/lib.rt:358:5
 mul-space-2 : tie.Need-mul-space-2
 mul-space-2 c = search needs
 
--- src/lib.rt:358:5
 slice-write-space : tie.Need-slice-write-space
 slice-write-space c = search needs
 
--- src/lib.rt:359:11
 mul-space-3 : tie.Need-mul-space-3
 mul-space-3 c = search needs
 
--- src/lib.rt:359:11
 add-space-2 : tie.Need-add-space-2
 add-space-2 c = search needs
 
--- src/lib.rt:359:5
 mul-space-4 : tie.Need-mul-space-4
 mul-space-4 c = search needs
 
--- src/lib.rt:359:5
 slice-write-space-2 : tie.Need-slice-write-space-2
 slice-write-space-2 c = simp length-set (omega arith)
 
--- src/lib.rt:360:5
 mark-requires : tie.Need-mark-requires
 mark-requires c κs =
     let a = c .before .before .before .before .before .before .args in
     let g = c .before .ground in
     (omega arith, omega (arith, g .ensures .within 0 (omega arith), c .before .before .before .earlier .ensures .upto, c .before .before .before .before .before .before .pre .place, c .before .before .before .before .before .before .pre .three, written-long (a .space .now) (a .i) (g .result .positions) (g .result .names)))
 
--- src/lib.rt:361:5
 mark-requires-2 : tie.Need-mark-requires-2
 mark-requires-2 c κs =
     let a = c .before .before .before .before .before .before .before .before .before .before .args in
     let g = c .before .before .before .before .before .ground in
     (omega arith, omega (arith, g .ensures .within 1 (omega arith), c .before .before .before .before .before .before .before .earlier .ensures .upto, c .before .before .before .before .before .before .before .before .before .before .pre .place, c .before .before .before .before .before .before .before .before .before .before .pre .three, written-long (a .space .now) (a .i) (g .result .positions) (g .result .names), c .before .before .before .mark .kept .0))
 
--- src/lib.rt:362:5
 mark-requires-3 : tie.Need-mark-requires-3
 mark-requires-3 c κs =
     let a = c .before .before .before .before .before .before .before .before .before .before .before .before .before .before .args in
     let g = c .before .before .before .before .before .before .before .before .before .ground in
     (omega arith, omega (arith, g .ensures .within 2 (omega arith), c .before .before .before .before .before .before .before .before .before .before .before .earlier .ensures .upto, c .before .before .before .before .before .before .before .before .before .before .before .before .before .before .pre .place, c .before .before .before .before .before .before .before .before .before .before .before .before .before .before .pre .three, written-long (a .space .now) (a .i) (g .result .positions) (g .result .names), c .before .before .before .before .before .before .before .mark .kept .0, c .before .before .before .mark2 .kept .0))
 
--- src/lib.rt:344:1
 same-length : tie.Need-same-length
 same-length c =
     let a = c .before .before .before .before .before .before .before .before .before .before .before .before .before .before .before .before .before .args in
     let g = c .before .before .before .before .before .before .before .before .before .before .before .before .ground in
     c .before .before .mark3 .kept .0 ∙ c .before .before .before .before .before .before .mark2 .kept .0 ∙ c .before .before .before .before .before .before .before .before .before .before .mark .kept .0 ∙ written-long (a .space .now) (a .i) (g .result .positions) (g .result .names)
 
--- src/lib.rt:344:1
 returns : tie.Need-returns
 returns c =
     let a = c .before .before .before .before .before .before .before .before .before .before .before .before .before .before .before .before .before .args in

@@ -1,3 +1,5 @@
+-- `check` meets its contract: what the reader refuses is refused, and of what it accepts `takes` tells whether the words are a
+-- certificate.
 use Rattle.engine.proofs.Answers.{well-formed, block-long, unread, taken, not-taken}
 use borrow.Author.Needs.{needs}
 use Rattle.engine.proofs.check.Statement.{statement}
@@ -7,35 +9,27 @@ use Rattle.engine.proofs.check.Lts as lts
 use Rattle.engine.proofs.takes.Reads as takes-reads
 use Rattle.formats.proofs.read.Reads as read-reads
 
--- src/lib.rt:94:11
 read-requires : tie.Need-read-requires
 read-requires c κs = search needs
 
--- src/lib.rt:95:25
 enum-known-n : tie.Need-enum-known-n
 enum-known-n c = search needs
 
--- src/lib.rt:96:22
 cast-t14 : tie.Need-cast-t14
 cast-t14 c = search needs
 
--- src/lib.rt:100:22
 enum-told : tie.Need-enum-told
 enum-told c = search needs
 
--- src/lib.rt:100:16
 takes-requires : tie.Need-takes-requires
 takes-requires c κs = (well-formed (c .before .before .before .before .before .read .ensures) (c .before .before .before .enum-told .given .1), block-long (c .before .before .before .before .before .read .ensures) (c .before .before .before .enum-told .given .1))
 
--- src/lib.rt:101:17
 returns : tie.Need-returns
 returns c = taken (c .before .before .before .before .before .before .before .read .ensures) (c .before .before .before .before .before .enum-told .given .1) (c .before .takes .ensures) (c .if1 .taken)
 
--- src/lib.rt:88:1
 returns-2 : tie.Need-returns-2
 returns-2 c = unread (c .before .before .before .read .ensures) (c .before .n .given .1)
 
--- src/lib.rt:88:1
 returns-3 : tie.Need-returns-3
 returns-3 c = not-taken (c .before .before .before .before .before .before .before .read .ensures) (c .before .before .before .before .before .enum-told .given .1) (c .before .takes .ensures) (c .if1 .left)
 

@@ -1,3 +1,5 @@
+-- `decide` meets its contract: what the reader refuses is refused, then memory that does not fit together; otherwise the reply is that of
+-- `answer`.
 use Rattle.engine.proofs.Answers.{well-formed, block-long}
 use Rattle.engine.proofs.Answering.{decided, undecided, short-lent}
 use borrow.Author.Needs.{needs}
@@ -10,55 +12,42 @@ use Rattle.engine.proofs.lends.Reads as lends-reads
 use Rattle.engine.proofs.refuse.Reads as refuse-reads
 use Rattle.formats.proofs.read.Reads as read-reads
 
--- src/lib.rt:206:11
 read-requires : tie.Need-read-requires
 read-requires c κs = search needs
 
--- src/lib.rt:207:25
 enum-known-n : tie.Need-enum-known-n
 enum-known-n c = search needs
 
--- src/lib.rt:207:38
 cast-refuse : tie.Need-cast-refuse
 cast-refuse c = search needs
 
--- src/lib.rt:207:31
 refuse-requires : tie.Need-refuse-requires
 refuse-requires c κs = search needs
 
--- src/lib.rt:209:22
 enum-told : tie.Need-enum-told
 enum-told c = search needs
 
--- src/lib.rt:209:16
 lends-requires : tie.Need-lends-requires
 lends-requires c κs = search needs
 
--- src/lib.rt:210:17
 answer-requires : tie.Need-answer-requires
 answer-requires c κs = (well-formed (c .before .before .before .before .before .before .before .before .before .read .ensures) (c .before .before .before .before .before .before .before .enum-told .given .1), block-long (c .before .before .before .before .before .before .before .before .before .read .ensures) (c .before .before .before .before .before .before .before .enum-told .given .1), c .before .before .before .before .before .before .lends .ensures .so (c .before .before .before .before .before .if1 .taken))
 
--- src/lib.rt:210:17
 same-length : tie.Need-same-length
 same-length c = search needs
 
--- src/lib.rt:210:17
 same-length-2 : tie.Need-same-length-2
 same-length-2 c = search needs
 
--- src/lib.rt:210:17
 returns : tie.Need-returns
 returns c = decided (c .before .before .before .before .before .before .before .before .before .before .before .before .before .before .read .ensures) (c .before .before .before .before .before .before .before .before .before .before .before .before .enum-told .given .1) (c .before .before .before .before .before .before .before .before .before .before .before .lends .ensures .so (c .before .before .before .before .before .before .before .before .before .before .if1 .taken)) (c .before .before .before .before .answer .ensures)
 
--- src/lib.rt:212:13
 refuse-requires-2 : tie.Need-refuse-requires-2
 refuse-requires-2 c κs = search needs
 
--- src/lib.rt:194:1
 returns-2 : tie.Need-returns-2
 returns-2 c = undecided (c .before .before .before .before .read .ensures) (c .before .before .n .given .1) (c .refuse .ensures)
 
--- src/lib.rt:194:1
 returns-3 : tie.Need-returns-3
 returns-3 c = short-lent (c .before .before .before .before .before .read .ensures) (c .before .before .before .enum-told .given .1) (c .before .before .lends .ensures .not-so (c .before .if1 .left)) (c .refuse2 .ensures)
 

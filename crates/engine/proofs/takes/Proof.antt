@@ -1,3 +1,4 @@
+-- `takes` meets its contract: the checker tells it of whatever the blocks stand for, so of the input.
 use Rattle.words.specs.Block.{inputIn}
 use Rattle.search.proofs.ReadyBlocks.{ready-of}
 use borrow.Author.Needs.{needs}
@@ -8,15 +9,12 @@ use Rattle.engine.proofs.takes.Lts as lts
 use Rattle.certificate.proofs.checker.check.Reads as check-reads
 use Rattle.engine.proofs.place.Reads as place-reads
 
--- src/lib.rt:81:9
 place-requires : tie.Need-place-requires
 place-requires c κs = search needs
 
--- src/lib.rt:84:5
 check-requires : tie.Need-check-requires
 check-requires c κs = ready-of _ _ _ _ _ (c .before .place .ensures .represents)
 
--- src/lib.rt:76:1
 returns : tie.Need-returns
 unfolding inputIn
 returns c =
