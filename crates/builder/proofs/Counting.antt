@@ -7,7 +7,7 @@ use native.Mathlib.Omega.{arith}
 use native.Mathlib.Decide.{ℕ-discrete, decLt}
 use native.Mathlib.Nat.{eq-or-lt-of-le}
 use borrow.Author.Tests.{eq-eqb, ne-eqb}
-use Rattle.builder.specs.Space.{markAt, count, lineOf}
+use Rattle.builder.specs.Space.{markAt, count}
 
 module _ (space : List ℕ) where
   pub count-marked : (n : ℕ) → markAt space n ≢ 0 → count space (suc n) ≡ suc (count space n)
@@ -17,10 +17,6 @@ module _ (space : List ℕ) where
   pub count-free : (n : ℕ) → markAt space n ≡ 0 → count space (suc n) ≡ count space n
   unfolding count
   count-free n e = rw (eq-eqb (markAt space n) 0 e, count) refl
-
-  pub count-line : (n : ℕ) → lineOf space (suc n) ≡ suc (count space n)
-  unfolding lineOf
-  count-line n = refl
 
   count-more : (n : ℕ) → (count space n ≤ count space (suc n)) × (count space (suc n) ≤ suc (count space n))
   count-more n = step (ℕ-discrete (markAt space n) 0)

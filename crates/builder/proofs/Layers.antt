@@ -1,5 +1,5 @@
--- Facts that come round by round hold, and the facts before the first place of a round are those of earlier rounds. So what is supplied for a
--- fact from the places before its round is a ground of it.
+-- Facts that come round by round hold, and the facts before the first place of a round are those of earlier rounds. So what is supplied
+-- for a fact from the places before its round is a ground of it.
 use mathlib.Core.List.{List}
 use mathlib.Core.Logic.{⊎-elim}
 use mathlib.Core.Path.{_≡_, ap}

@@ -9,6 +9,7 @@ use native.Mathlib.Decide.{decLt}
 use native.Mathlib.Nat.{eq-or-lt-of-le}
 use lib.ListN.{length, getD, length-map}
 use Rattle.semantics.specs.Lists.{_∈_, digits, zeros}
+use Rattle.semantics.proofs.FixedPoint.{same-ground}
 use Rattle.semantics.specs.RuleSet.{RuleSet, WellFormed}
 use Rattle.semantics.specs.Heap.{Heap}
 use Rattle.semantics.specs.Fact.{fact}
@@ -112,30 +113,17 @@ module _ (ruleSet : RuleSet) (heap : Heap) (domain table : List ℕ) (at : ℕ) 
         ap₂ (λ (x : ℕ) (xs : List ℕ). x ∷ xs) (d .facts j (omega (arith, g .allowed j m .before)) (place-marked j m)) (facts-back js (λ x k. h x (List·Memᴰ·tail k)))
 
     line-holds : LineHolds ruleSet heap domain words (lineFor space i) (map (lineFor space) (g .places))
-    line-holds =
-        let back = facts-back (g .places) (λ j m. m) in
-        record {
-          earlier = line-earlier;
-          ground = record {
-            rule = g .ground .rule;
-            arguments = g .ground .arguments;
-            bound = g .ground .bound;
-            indices = g .ground .indices;
-            part = g .ground .part;
-            applies = g .ground .applies;
-            keeps = g .ground .keeps;
-            calls = rw back (g .ground .calls);
-            joins = rw back (g .ground .joins);
-            is-fact = d .facts i upto marked ∙ g .ground .is-fact;
-          };
-          written = record {
-            number = g .number;
-            in-rule-set = g .in-rule-set;
-            is-rule = g .is-rule;
-            positions = d .positions i upto marked ∙ g .written;
-            names = named-lines;
-          };
-        }
+    line-holds = record {
+      earlier = line-earlier;
+      ground = same-ground ruleSet heap domain (sym (facts-back (g .places) (λ j m. m))) (d .facts i upto marked) (g .ground);
+      written = record {
+        number = g .number;
+        in-rule-set = g .in-rule-set;
+        is-rule = g .is-rule;
+        positions = d .positions i upto marked ∙ g .written;
+        names = named-lines;
+      };
+    }
 
   -- the place of a line
   place-of : (k : ℕ) → 1 ≤ k → k ≤ count space (suc at) → Numbered space (suc at) (k - 1)
@@ -172,7 +160,7 @@ module _ (ruleSet : RuleSet) (heap : Heap) (domain table : List ℕ) (at : ℕ) 
           let p : r .place ≡ s .place = omega arith in
           omega (arith, sym (r .is) ∙ ap (count space) p ∙ s .is)
 
-  -- each line but the last is called by a later one
+  -- a line before the last is called from further down
   record CalledLater (k : ℕ) : Type 0 where
     pub line : ℕ
     pub later : k < line

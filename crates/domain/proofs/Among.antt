@@ -11,9 +11,8 @@ use Rattle.semantics.specs.Heap.{Record, Heap, recordValues, heapValues}
 use Rattle.semantics.proofs.Pigeon.{shorter}
 use Rattle.semantics.proofs.DomainFacts.{upward, upward-length, upward-in, upward-distinct, heap-length}
 use Rattle.words.specs.Block.{entries, recordIn, heapIn}
-use Rattle.words.proofs.Tabulate.{tabulate-in, tabulate-out}
+use Rattle.words.proofs.Tabulate.{entries-length, tabulate-in, tabulate-out}
 use Rattle.domain.specs.Spare.{queryValues, given, Readable, Spare}
-use Rattle.domain.proofs.Values.{entries-count}
 
 -- ---- where a value stands
 
@@ -79,7 +78,7 @@ given-few heap query r =
     omega (
       arith,
       length-append (queryValues query) (heapValues (heapIn heap)),
-      entries-count query 2 (getD query 1 0),
+      entries-length query 2 (getD query 1 0),
       heap-length (heapIn heap) (r .heap-formed .fields-few),
       r .heap-formed .records-few,
       r .values-few,

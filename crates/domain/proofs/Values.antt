@@ -8,8 +8,8 @@ use lib.Seq.{drop-cons}
 use Rattle.semantics.specs.Lists.{_∈_}
 use Rattle.semantics.specs.Heap.{Record, blank, recordValues, heapValues, WellFormedHeap}
 use Rattle.semantics.proofs.DomainFacts.{heap-length}
-use Rattle.words.specs.Block.{tabulate, entries, recordIn, heapIn}
-use Rattle.words.proofs.Tabulate.{tabulate-length, tabulate-at, tabulate-in}
+use Rattle.words.specs.Block.{tabulate, recordIn, heapIn}
+use Rattle.words.proofs.Tabulate.{entries-length, tabulate-length, tabulate-at, tabulate-in}
 use Rattle.domain.specs.Insertion.{Room, Inserted}
 use Rattle.domain.proofs.Insertion.{inserted-none, inserted-also, inserted-room}
 
@@ -18,9 +18,6 @@ use Rattle.domain.proofs.Insertion.{inserted-none, inserted-also, inser
 pub heap-count : (heap : List ℕ) → length (heapIn heap) ≡ getD heap 0 0
 unfolding heapIn
 heap-count heap = tabulate-length (getD heap 0 0) (λ (k : ℕ). recordIn heap (1 + 6 * k))
-
-pub entries-count : (block : List ℕ) (from n : ℕ) → length (entries block from n) ≡ n
-entries-count block from n = tabulate-length n (λ (i : ℕ). getD block (from + i) 0)
 
 module _ (heap : List ℕ) (formed : WellFormedHeap (heapIn heap)) where
   pub records-few : getD heap 0 0 ≤ 16
@@ -32,7 +29,7 @@ module _ (heap : List ℕ) (formed : WellFormedHeap (heapIn heap)) where
 
   pub fields-few : (k : ℕ) → k < getD heap 0 0 → getD heap (1 + 6 * k + 1) 0 ≤ 4
   fields-few k h =
-      omega (arith, formed .fields-few (recordIn heap (1 + 6 * k)) (record-in k h), entries-count heap (1 + 6 * k + 2) (getD heap (1 + 6 * k + 1) 0))
+      omega (arith, formed .fields-few (recordIn heap (1 + 6 * k)) (record-in k h), entries-length heap (1 + 6 * k + 2) (getD heap (1 + 6 * k + 1) 0))
 
 -- ---- the heap's values, inserted from the last record to the first
 

@@ -8,23 +8,15 @@ use native.Mathlib.Omega.{arith}
 use lib.ListN.{length, take}
 use Rattle.semantics.specs.Lists.{zeros}
 use Rattle.semantics.specs.Heap.{wholeOf}
-use Rattle.semantics.specs.Reader.{Result, accepted, refused}
+use Rattle.semantics.specs.Reader.{accepted, refused}
 use Rattle.semantics.specs.Formats.{Input, ladder}
 use Rattle.semantics.specs.Certificate.{Opened}
 use Rattle.semantics.specs.Contract.{domainOf, FitsInput, CertificateInput, TrimmedInput, FilledInput, MoreFactsThan, Lent, padded, refusalReply, Answers, Decided, Checked}
 use Rattle.semantics.specs.declared.Reply.{Reply}
 use Rattle.semantics.specs.declared.CheckReply.{CheckReply}
 use Rattle.semantics.proofs.Reached.{more-facts}
+use Rattle.semantics.proofs.ContractFacts.{same-input, same-number, clash}
 use Rattle.semantics.proofs.Theorems as Theorems
-
-same-input : {r : Result Input} {i j : Input} → r ≡ accepted i → r ≡ accepted j → i ≡ j
-same-input e f = cc
-
-same-number : {r : Result Input} {m n : ℕ} → r ≡ refused m → r ≡ refused n → m ≡ n
-same-number e f = cc
-
-clash : {r : Result Input} {i : Input} {n : ℕ} → r ≡ accepted i → r ≡ refused n → ⊥
-clash e f = let z : _≡_ {A = ℕ} 0 1 = cc in omega arith
 
 module _ (book snapshot question table space : List ℕ) {r : Reply} {t x : List ℕ} where
   -- ---- demand 1: a verdict or a numbered refusal, in order, with lent memory as promised
@@ -71,7 +63,7 @@ module _ (i : Input) (n : ℕ) {r : Reply} {t x : List ℕ} where
   table-filled (Answers.fits-not rounds facts f v a c) e =
       (facts, rw (ap (λ (r : Reply). r .rounds) a) f, sym (ap (λ (r : Reply). r .facts) a))
 
-  -- ---- demand 3: the verdict is that of unfolding by hand
+  -- ---- demand 3: fits is what a finished tree by hand shows, and nothing else
 
   pub fits-exactly : Answers i n r t x → r .refusal ≡ 0 → ((r .verdict ≡ 1) ↔ FitsInput i) × ((r .verdict ≡ 0) ↔ (¬ FitsInput i))
   fits-exactly (Answers.over m a b c) e = absurd (omega (arith, ap (λ (r : Reply). r .refusal) a))
@@ -80,7 +72,8 @@ module _ (i : Input) (n : ℕ) {r : Reply} {t x : List ℕ} where
   fits-exactly (Answers.fits-not rounds facts f v a c) e =
       let q = ap (λ (r : Reply). r .verdict) a in ((λ z. absurd (omega (arith, q)), λ k. absurd (v k)), (λ _. v, λ _. q))
 
-  -- Each fits comes with a certificate of the engine's kind at the start of the unfolding space, and `lines` is its number of lines.
+  -- With fits comes a certificate of the engine's kind: the unfolding space has its words and then zeros, and the reply tells how many
+  -- lines it has.
   pub fits-certified : Answers i n r t x → r .verdict ≡ 1 → (words : List ℕ) × (u : TrimmedInput i words) × (r .lines ≡ u .taken .count) × (x ≡ padded (3 * n) words)
   fits-certified (Answers.over m a b c) e = absurd (omega (arith, ap (λ (r : Reply). r .verdict) a))
   fits-certified (Answers.fits rounds facts words f v u a c) e = (words, u, ap (λ (r : Reply). r .lines) a, c)
@@ -101,7 +94,8 @@ module _ (book snapshot question : List ℕ) where
     taken-exactly (Checked.takes-not j e c a) =
         (ap (λ (r : CheckReply). r .refusal) a, (λ q. absurd (omega (arith, ap (λ (r : CheckReply). r .taken) a)), λ k. absurd (c (rw (same-input is-read e) at k))))
 
-    -- What it takes opens into a finished unfolding by hand: the last line is its top node, and it uses the records of the last line.
+    -- A certificate stands for a tree by hand: its last line, opened, is a finished tree of the query that has the whole heap. So the
+    -- query fits.
     pub taken-opens : (c : CertificateInput i words)
         → Opened (i .ruleSet) (i .heap) (domainOf i) words (c .count) (i .predicate) (i .values) (wholeOf (i .heap)) × FitsInput i
     taken-opens = Theorems.certificate-opens i (Theorems.read-is-well-formed book snapshot question i is-read) words

@@ -16,11 +16,6 @@ pub bit : ℕ → ℕ → ℕ
 bit n zero = n % 2
 bit n (suc i) = bit (n / 2) i
 
-pub bit-small : (n i : ℕ) → bit n i < 2
-unfolding bit
-bit-small n zero = omega arith
-bit-small n (suc i) = bit-small (n / 2) i
-
 bit-zero : (i : ℕ) → bit 0 i ≡ 0
 unfolding bit
 bit-zero zero = refl
@@ -48,7 +43,7 @@ unfolding bit
 bit-and a b zero = omega (arith, and-step a b)
 bit-and a b (suc i) = ap (λ (k : ℕ). bit k i) (omega (arith, and-step a b)) ∙ bit-and (a / 2) (b / 2) i
 
--- a number all of whose bits from k on are 0 is below 2 ^ k
+-- a number all of whose bits are 0 is 0
 no-bits : (n fuel : ℕ) → n ≤ fuel → ((i : ℕ) → bit n i ≡ 0) → n ≡ 0
 unfolding bit
 no-bits n zero h none = omega arith

@@ -1,6 +1,5 @@
 -- What the contract of the engine decides: everything but the certificate that is written on fits and its number of lines.
 use mathlib.Core.Path.{_≡_, refl, sym, ap, ap₂, _∙_}
-use mathlib.Core.Logic.{_↔_}
 use mathlib.Core.List.{List}
 use Prim.Native.Nat.{ℕ, _-_, _*_, _≤_}
 use native.Mathlib.Omega.{arith}
@@ -8,10 +7,8 @@ use lib.ListN.{length, take}
 use lib.Seq.{take-append-seam}
 use Rattle.semantics.specs.Lists.{zeros}
 use Rattle.semantics.specs.Reader.{Result, refused, accepted}
-use Rattle.semantics.specs.Formats.{Input, ladder}
-use Rattle.semantics.specs.Contract.{FitsInput, CertificateInput, MoreFactsThan, CompletedInput, padded, refusalReply, Answers, Decided, Checked, deskNumber, DeskDecided, DeskChecked}
-use Rattle.semantics.proofs.FormatsFacts.{ladder-read, ladder-number}
-use Rattle.semantics.proofs.Opening.{whole-opens}
+use Rattle.semantics.specs.Formats.{Input}
+use Rattle.semantics.specs.Contract.{MoreFactsThan, CompletedInput, padded, refusalReply, Answers, Decided, Checked, deskNumber, DeskDecided, DeskChecked}
 use Rattle.semantics.proofs.Reached.{completed-unique, more-facts}
 use Rattle.semantics.specs.declared.Reply.{Reply}
 use Rattle.semantics.specs.declared.CheckReply.{CheckReply}
@@ -54,83 +51,43 @@ module _ (i : Input) (n : ℕ) where
         choice = λ z. absurd (omega (arith, ap (λ (r : Reply). r .verdict) a));
       }
 
-inputOf : Input → Result Input → Input
-inputOf d (accepted i) = i
-inputOf d (refused n) = d
+-- one reading has one outcome
+pub same-input : {r : Result Input} {i j : Input} → r ≡ accepted i → r ≡ accepted j → i ≡ j
+same-input e f = cc
 
-numberOf : Result Input → ℕ
-numberOf (accepted i) = 0
-numberOf (refused n) = n
+pub same-number : {r : Result Input} {m n : ℕ} → r ≡ refused m → r ≡ refused n → m ≡ n
+same-number e f = cc
 
-good-equal : {i j : Input} → accepted i ≡ accepted j → i ≡ j
-unfolding inputOf
-good-equal {i} e = ap (inputOf i) e
-
-refused-equal : {r : Result Input} {m n : ℕ} → r ≡ refused m → r ≡ refused n → m ≡ n
-unfolding numberOf
-refused-equal e f = sym (ap numberOf e) ∙ ap numberOf f
-
-tag : Result Input → ℕ
-tag (accepted i) = 0
-tag (refused n) = 1
-
-good-refused : {i : Input} {n : ℕ} → accepted i ≡ refused n → ⊥
-unfolding tag
-good-refused {i} {n} e = omega (arith, ap tag e)
+pub clash : {r : Result Input} {i : Input} {n : ℕ} → r ≡ accepted i → r ≡ refused n → ⊥
+clash e f = let z : _≡_ {A = ℕ} 0 1 = cc in omega arith
 
 module _ (book snapshot question table space : List ℕ) where
   -- the contract decides all but the choice
   pub decided-same : {r s : Reply} {t u x y : List ℕ} → Decided book snapshot question table space r t x → Decided book snapshot question table space s u y → Same r s t u x y
   decided-same (Decided.unread n e a b c) (Decided.unread m e′ a′ b′ c′) =
-      same-all (a ∙ ap refusalReply (refused-equal e e′) ∙ sym a′) (b ∙ sym b′) (c ∙ sym c′)
-  decided-same (Decided.unread n e a b c) (Decided.unlent i e′ l a′ b′ c′) = absurd (good-refused (sym e′ ∙ e))
-  decided-same (Decided.unread n e a b c) (Decided.answered i e′ l w) = absurd (good-refused (sym e′ ∙ e))
-  decided-same (Decided.unlent i e l a b c) (Decided.unread n e′ a′ b′ c′) = absurd (good-refused (sym e ∙ e′))
-  decided-same (Decided.answered i e l w) (Decided.unread n e′ a′ b′ c′) = absurd (good-refused (sym e ∙ e′))
+      same-all (a ∙ ap refusalReply (same-number e e′) ∙ sym a′) (b ∙ sym b′) (c ∙ sym c′)
+  decided-same (Decided.unread n e a b c) (Decided.unlent i e′ l a′ b′ c′) = absurd (clash e′ e)
+  decided-same (Decided.unread n e a b c) (Decided.answered i e′ l w) = absurd (clash e′ e)
+  decided-same (Decided.unlent i e l a b c) (Decided.unread n e′ a′ b′ c′) = absurd (clash e e′)
+  decided-same (Decided.answered i e l w) (Decided.unread n e′ a′ b′ c′) = absurd (clash e e′)
   decided-same (Decided.unlent i e l a b c) (Decided.unlent j e′ l′ a′ b′ c′) = same-all (a ∙ sym a′) (b ∙ sym b′) (c ∙ sym c′)
   decided-same (Decided.unlent i e l a b c) (Decided.answered j e′ l′ w) = absurd (l l′)
   decided-same (Decided.answered i e l w) (Decided.unlent j e′ l′ a′ b′ c′) = absurd (l′ l)
   decided-same (Decided.answered i e l w) (Decided.answered j e′ l′ w′) =
-      answers-same i (length table) w (rw (sym (good-equal (sym e ∙ e′))) at w′)
-
-  -- demand 3: where none of refusals 1 to 11 is given, the verdict is 1 exactly if the query fits by hand
-  pub decided-verdict : {r : Reply} {t x : List ℕ} → Decided book snapshot question table space r t x → r .refusal ≡ 0
-      → (i : Input) × (ladder book snapshot question ≡ accepted i) × (((r .verdict ≡ 1) ↔ FitsInput i) × ((r .verdict ≡ 0) ↔ (¬ FitsInput i)))
-  decided-verdict (Decided.unread n e a b c) z =
-      absurd (let q = ladder-number book snapshot question n e in omega (arith, q .0, ap (λ (r : Reply). r .refusal) a))
-  decided-verdict (Decided.unlent i e l a b c) z = absurd (omega (arith, ap (λ (r : Reply). r .refusal) a))
-  decided-verdict {r} {t} {x} (Decided.answered i e l w) z = (i, e, by w)
-    where
-      by : Answers i (length table) r t x → ((r .verdict ≡ 1) ↔ FitsInput i) × ((r .verdict ≡ 0) ↔ (¬ FitsInput i))
-      by (Answers.over m a b c) = absurd (omega (arith, ap (λ (r : Reply). r .refusal) a))
-      by (Answers.fits rounds facts words w f v a c) =
-          let q : r .verdict ≡ 1 = ap (λ (r : Reply). r .verdict) a in
-          (((λ _. f), λ _. q), ((λ k. absurd (omega arith)), λ k. absurd (k f)))
-      by (Answers.fits-not rounds facts w f a c) =
-          let q : r .verdict ≡ 0 = ap (λ (r : Reply). r .verdict) a in
-          (((λ k. absurd (omega arith)), λ k. absurd (f k)), ((λ _. f), λ _. q))
-
-  -- the check: 1 exactly if no refusal is earned and the conditions for lines hold
-  pub checked-opens : (words : List ℕ) (r : CheckReply) → Checked book snapshot question words r → r .taken ≡ 1
-      → (i : Input) × (ladder book snapshot question ≡ accepted i) × CertificateInput i words × FitsInput i
-  checked-opens words r (Checked.unread n e a) z = absurd (omega (arith, ap (λ (r : CheckReply). r .taken) a))
-  checked-opens words r (Checked.takes-not i e t a) z = absurd (omega (arith, ap (λ (r : CheckReply). r .taken) a))
-  checked-opens words r (Checked.takes i e t a) z =
-      let h = ladder-read book snapshot question i e in
-      (i, e, t, whole-opens (i .ruleSet) (i .heap) (i .predicate) (i .values) words (h .valid) (h .counted) t .1)
+      answers-same i (length table) w (rw (sym (same-input e e′)) at w′)
 
 module _ (book snapshot question words : List ℕ) where
   -- the reply of the check is decided
   pub checked-same : {r s : CheckReply} → Checked book snapshot question words r → Checked book snapshot question words s → r ≡ s
-  checked-same (Checked.unread n e a) (Checked.unread m e′ a′) = a ∙ ap (λ (k : ℕ). record { refusal = k; taken = 0 }) (refused-equal e e′) ∙ sym a′
-  checked-same (Checked.unread n e a) (Checked.takes i e′ t a′) = absurd (good-refused (sym e′ ∙ e))
-  checked-same (Checked.unread n e a) (Checked.takes-not i e′ t a′) = absurd (good-refused (sym e′ ∙ e))
-  checked-same (Checked.takes i e t a) (Checked.unread n e′ a′) = absurd (good-refused (sym e ∙ e′))
-  checked-same (Checked.takes-not i e t a) (Checked.unread n e′ a′) = absurd (good-refused (sym e ∙ e′))
+  checked-same (Checked.unread n e a) (Checked.unread m e′ a′) = a ∙ ap (λ (k : ℕ). record { refusal = k; taken = 0 }) (same-number e e′) ∙ sym a′
+  checked-same (Checked.unread n e a) (Checked.takes i e′ t a′) = absurd (clash e′ e)
+  checked-same (Checked.unread n e a) (Checked.takes-not i e′ t a′) = absurd (clash e′ e)
+  checked-same (Checked.takes i e t a) (Checked.unread n e′ a′) = absurd (clash e e′)
+  checked-same (Checked.takes-not i e t a) (Checked.unread n e′ a′) = absurd (clash e e′)
   checked-same (Checked.takes i e t a) (Checked.takes j e′ t′ a′) = a ∙ sym a′
   checked-same (Checked.takes-not i e t a) (Checked.takes-not j e′ t′ a′) = a ∙ sym a′
-  checked-same (Checked.takes i e t a) (Checked.takes-not j e′ t′ a′) = absurd (t′ (rw (good-equal (sym e ∙ e′)) at t))
-  checked-same (Checked.takes-not i e t a) (Checked.takes j e′ t′ a′) = absurd (t (rw (sym (good-equal (sym e ∙ e′))) at t′))
+  checked-same (Checked.takes i e t a) (Checked.takes-not j e′ t′ a′) = absurd (t′ (rw (same-input e e′) at t))
+  checked-same (Checked.takes-not i e t a) (Checked.takes j e′ t′ a′) = absurd (t (rw (sym (same-input e e′)) at t′))
 
 module _ (book snapshot question : List ℕ) where
   -- the desk's numbers are decided
@@ -140,15 +97,15 @@ module _ (book snapshot question : List ℕ) where
       a .is-number ∙ ap₂ deskNumber (s .refusals) (s .verdicts) ∙ sym (b .is-number)
 
   pub desk-checked-same : (bytes : List ℕ) {m n : ℕ} → DeskChecked book snapshot question bytes m → DeskChecked book snapshot question bytes n → m ≡ n
-  desk-checked-same bytes (DeskChecked.unread n e a) (DeskChecked.unread m e′ a′) = a ∙ ap (λ (k : ℕ). deskNumber k 0) (refused-equal e e′) ∙ sym a′
-  desk-checked-same bytes (DeskChecked.unread n e a) (DeskChecked.takes i e′ t a′) = absurd (good-refused (sym e′ ∙ e))
-  desk-checked-same bytes (DeskChecked.unread n e a) (DeskChecked.takes-not i e′ t a′) = absurd (good-refused (sym e′ ∙ e))
-  desk-checked-same bytes (DeskChecked.takes i e t a) (DeskChecked.unread n e′ a′) = absurd (good-refused (sym e ∙ e′))
-  desk-checked-same bytes (DeskChecked.takes-not i e t a) (DeskChecked.unread n e′ a′) = absurd (good-refused (sym e ∙ e′))
+  desk-checked-same bytes (DeskChecked.unread n e a) (DeskChecked.unread m e′ a′) = a ∙ ap (λ (k : ℕ). deskNumber k 0) (same-number e e′) ∙ sym a′
+  desk-checked-same bytes (DeskChecked.unread n e a) (DeskChecked.takes i e′ t a′) = absurd (clash e′ e)
+  desk-checked-same bytes (DeskChecked.unread n e a) (DeskChecked.takes-not i e′ t a′) = absurd (clash e′ e)
+  desk-checked-same bytes (DeskChecked.takes i e t a) (DeskChecked.unread n e′ a′) = absurd (clash e e′)
+  desk-checked-same bytes (DeskChecked.takes-not i e t a) (DeskChecked.unread n e′ a′) = absurd (clash e e′)
   desk-checked-same bytes (DeskChecked.takes i e t a) (DeskChecked.takes j e′ t′ a′) = a ∙ sym a′
   desk-checked-same bytes (DeskChecked.takes-not i e t a) (DeskChecked.takes-not j e′ t′ a′) = a ∙ sym a′
-  desk-checked-same bytes (DeskChecked.takes i e t a) (DeskChecked.takes-not j e′ t′ a′) = absurd (t′ (rw (good-equal (sym e ∙ e′)) at t))
-  desk-checked-same bytes (DeskChecked.takes-not i e t a) (DeskChecked.takes j e′ t′ a′) = absurd (t (rw (sym (good-equal (sym e ∙ e′))) at t′))
+  desk-checked-same bytes (DeskChecked.takes i e t a) (DeskChecked.takes-not j e′ t′ a′) = absurd (t′ (rw (same-input e e′) at t))
+  desk-checked-same bytes (DeskChecked.takes-not i e t a) (DeskChecked.takes j e′ t′ a′) = absurd (t (rw (sym (same-input e e′)) at t′))
 
 module _ (book snapshot question table space : List ℕ) where
   -- What the engine writes on fits is taken by the check: the words of the first `lines` lines of the unfolding space.

@@ -6,12 +6,10 @@ use Prim.Native.Nat.{ℕ, zero, suc, _-_, _*_, _≤_, _<_}
 use native.Mathlib.Omega.{arith}
 use lib.ListN.{length, length-append, length-replicate}
 use Rattle.semantics.specs.Lists.{_∈_, Distinct, zeros}
-use Rattle.semantics.specs.Formats.{Input, WellFormedInput}
+use Rattle.semantics.specs.Formats.{Input}
 use Rattle.semantics.specs.Certificate.{factAt}
 use Rattle.semantics.specs.Contract.{domainOf, TrimmedInput, CompletedInput, padded, Answers, Decided}
-use Rattle.semantics.proofs.FixedPoint.{holding-counted}
-use Rattle.semantics.proofs.FormatsFacts.{ladder-read}
-use Rattle.semantics.proofs.WordsSmall.{line-holds}
+use Rattle.semantics.proofs.FixedPoint.{line-holds, holding-counted}
 use Rattle.semantics.specs.declared.Reply.{Reply}
 
 facts-to : List ℕ → ℕ → List ℕ
@@ -36,13 +34,13 @@ to-distinct words (suc n) once =
     Distinct.next (λ m. let (k, a, b, e) = to-member words n (factAt words (suc n)) m in once k (suc n) a (omega arith) (omega arith) (sym e))
     (to-distinct words n (λ j k a b c. once j k a b (omega arith)))
 
-pub lines-fit : (i : Input) → WellFormedInput i → (words : List ℕ) (u : TrimmedInput i words) {r : ℕ} {facts : List ℕ} → CompletedInput i r facts → u .taken .count ≤ length facts
-lines-fit i h words u c =
+pub lines-fit : (i : Input) (words : List ℕ) (u : TrimmedInput i words) {r : ℕ} {facts : List ℕ} → CompletedInput i r facts → u .taken .count ≤ length facts
+lines-fit i words u c =
     omega (
       arith,
       to-length words (u .taken .count),
       holding-counted (i .ruleSet) (i .heap) (domainOf i) (c .complete) (facts-to words (u .taken .count)) (to-distinct words (u .taken .count) (u .once))
-          (λ f m. let (k, a, b, e) = to-member words (u .taken .count) f m in rw e (line-holds i h words (u .taken) k k (omega arith) a b)),
+          (λ f m. let (k, a, b, e) = to-member words (u .taken .count) f m in rw e (line-holds (i .ruleSet) (i .heap) (domainOf i) (u .taken) k k (omega arith) a b)),
     )
 
 padded-length : (n : ℕ) (xs : List ℕ) → length xs ≤ n → length (padded n xs) ≡ n
@@ -57,9 +55,6 @@ decided-lengths b s q table space (Decided.unread n e a t p) = record { tables =
 decided-lengths b s q table space (Decided.unlent i e l a t p) = record { tables = ap length t; spaces = ap length p }
 decided-lengths b s q table space {r} {table′} {space′} (Decided.answered i e l w) = by w
   where
-    h : WellFormedInput i
-    h = ladder-read b s q i e
-
     by : Answers i (length table) r table′ space′ → Keeps table space table′ space′
     by (Answers.over m a t p) =
         record { tables = ap length t ∙ length-replicate {A = ℕ} (length table) 0; spaces = omega (arith, ap length p, length-replicate {A = ℕ} (3 * length table) 0, l .three) }
@@ -67,5 +62,5 @@ decided-lengths b s q table space {r} {table′} {space′} (Decided.answered i 
         record { tables = ap length (w .is-table) ∙ padded-length (length table) facts (w .room); spaces = omega (arith, ap length p, length-replicate {A = ℕ} (3 * length table) 0, l .three) }
     by (Answers.fits rounds facts words w f u a p) = record {
       tables = ap length (w .is-table) ∙ padded-length (length table) facts (w .room);
-      spaces = omega (arith, ap length p, padded-length (3 * length table) words (omega (arith, u .taken .whole, lines-fit i h words u (w .completed), w .room)), l .three);
+      spaces = omega (arith, ap length p, padded-length (3 * length table) words (omega (arith, u .taken .whole, lines-fit i words u (w .completed), w .room)), l .three);
     }

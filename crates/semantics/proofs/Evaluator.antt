@@ -1,4 +1,5 @@
--- No part of what must be believed: the rounds as a computation, for rule sets and heaps of a few values: every rule, all values of the domain for its variables, every choice of facts.
+-- The rounds as a computation, for rule sets and heaps of a few values: every rule, all values of the domain for its variables, every
+-- choice of facts. It serves the starred rows, and is no part of what must be believed.
 use mathlib.Core.Bool.{Bool, true, false}
 use mathlib.Core.List.{List, [], _∷_, _++_, map, flatMap}
 use Prim.Native.Nat.{ℕ, zero, suc, _+_, _^_}

@@ -22,7 +22,7 @@ use Rattle.semantics.specs.Rounds.{Ground, Complete, After, Holds, AllHo
 use Rattle.semantics.specs.Certificate.{factAt, LineHolds, Trimmed}
 use Rattle.semantics.proofs.Bits.{decIn}
 use Rattle.semantics.proofs.DomainFacts.{query-good}
-use Rattle.semantics.proofs.FixedPoint.{holds-closed, table-holds, holding-counted}
+use Rattle.semantics.proofs.FixedPoint.{same-ground, holds-closed, table-holds, holding-counted}
 use Rattle.semantics.proofs.Verdict.{fits-whole, completeness}
 use Rattle.semantics.proofs.LineCount.{leave, leave-in, leave-out}
 
@@ -232,18 +232,7 @@ module _ (ruleSet : RuleSet) (heap : Heap) (values : List ℕ) where
               let (h, i, e) = Memᴰ·of-map (lineOf fs) called m in
               let (low, high) = line-bounds fs h (k h i) in
               (omega arith, omega arith);
-          ground = record {
-            rule = g .rule;
-            arguments = g .arguments;
-            bound = g .bound;
-            indices = g .indices;
-            part = g .part;
-            applies = g .applies;
-            keeps = g .keeps;
-            calls = rw back (g .calls);
-            joins = rw back (g .joins);
-            is-fact = ap (λ (i : ℕ). getD words i 0) (omega (arith, words-length b)) ∙ at 0 (omega arith) ∙ g .is-fact;
-          };
+          ground = same-ground ruleSet heap values (sym back) (ap (λ (i : ℕ). getD words i 0) (omega (arith, words-length b)) ∙ at 0 (omega arith)) g;
           written = record {
             number = s .0;
             in-rule-set = s .1;

@@ -311,7 +311,7 @@ then-yields : {A C : Type 0} (P : A → Type 0) (Q : C → Type 0) (next : A →
 then-yields P Q next (accepted a) h k = k a h
 then-yields P Q next (refused n) h k = h
 
--- what is known where none of refusals 1 to 9 is earned
+-- what is known of what is accepted
 record LadderRead (W : ℕ → Type 0) (i : Input) : Type 0 where
   pub formed : WellFormedInput i
   pub heap-values : Each W (heapValues (i .heap))

@@ -25,6 +25,5 @@ pub mod Taking
 pub mod ContractFacts
 pub mod ContractExists
 pub mod ContractLengths
-pub mod WordsSmall
 pub mod Rows
 pub mod Theorems

@@ -1,5 +1,5 @@
--- How many lines a certificate of the engine's kind has: a test that computes. It goes from the last line to the first, with the facts passed, and
--- those that a line passed calls and that are yet to come.
+-- How many lines a certificate of the engine's kind has: a test that computes. It goes from the last line to the first, with the facts
+-- passed, and those that a line passed calls and that are yet to come.
 use mathlib.Core.Bool.{Bool, true, false, false≢true}
 use mathlib.Core.Path.{_≡_, refl, sym, ap, _∙_}
 use mathlib.Core.Logic.{_≢_, _⊎_, inl, inr, ⊎-elim}
@@ -14,10 +14,10 @@ use Rattle.semantics.specs.RuleSet.{RuleSet}
 use Rattle.semantics.specs.Heap.{Heap, wholeOf}
 use Rattle.semantics.specs.Domain.{domain}
 use Rattle.semantics.specs.Fact.{fact}
-use Rattle.semantics.specs.Rounds.{Complete, Holds}
+use Rattle.semantics.specs.Rounds.{Complete}
 use Rattle.semantics.specs.Certificate.{factAt, Trimmed}
 use Rattle.semantics.proofs.DomainFacts.{member-false}
-use Rattle.semantics.proofs.FixedPoint.{holds-closed, complete-has}
+use Rattle.semantics.proofs.FixedPoint.{line-holds, complete-has}
 use Rattle.semantics.proofs.Evaluator.{when, both, Step, steps, every}
 use Rattle.semantics.proofs.Evaluation.{flat-in, when-in, both-out, steps-in, every-out}
 
@@ -96,20 +96,7 @@ some-out (h ∷ gs) e = (h, List·Memᴰ·head refl)
 
 module _ (ruleSet : RuleSet) (heap : Heap) (p : ℕ) (query words : List ℕ) (u : Trimmed ruleSet heap (domain ruleSet heap query) p query (wholeOf heap) words)
     (table : List ℕ) (complete : Complete ruleSet heap (domain ruleSet heap query) table) where
-  -- every line's fact is in the table
-  line-holds : (fuel k : ℕ) → k ≤ fuel → 1 ≤ k → k ≤ u .taken .count → Holds ruleSet heap (domain ruleSet heap query) (factAt words k)
-  line-holds zero k h low high = absurd (omega arith)
-  line-holds (suc fuel) k h low high =
-      let t = u .taken .each k low high in
-      holds-closed ruleSet heap (domain ruleSet heap query) (factAt words k) (record {
-        called = map (factAt words) (u .taken .calls k);
-        ground = t .ground;
-        from-known = λ g m.
-            let (l, i, e) = Memᴰ·of-map (factAt words) (u .taken .calls k) m in
-            let (a, b) = t .earlier l i in
-            rw (← e) (line-holds fuel l (omega arith) a (omega arith));
-      })
-
+  -- every line's fact follows, from facts of the table, in one of the ways that were worked out
   line-way : (k : ℕ) → 1 ≤ k → k ≤ u .taken .count
       → map (factAt words) (u .taken .calls k) ∈ ways (steps ruleSet heap (domain ruleSet heap query) table) (factAt words k)
   line-way k low high =
@@ -119,7 +106,7 @@ module _ (ruleSet : RuleSet) (heap : Heap) (p : ℕ) (query words : List ℕ) (u
       (λ g m.
       let (l, i, e) = Memᴰ·of-map (factAt words) (u .taken .calls k) m in
       let (a, b) = t .earlier l i in
-      Memᴰ·cast (sym e) (complete-has ruleSet heap (domain ruleSet heap query) complete (factAt words l) (line-holds l l (omega arith) a (omega arith)))))
+      Memᴰ·cast (sym e) (complete-has ruleSet heap (domain ruleSet heap query) complete (factAt words l) (line-holds ruleSet heap (domain ruleSet heap query) (u .taken) l l (omega arith) a (omega arith)))))
 
   -- the lines above k are passed
   record Passed (k : ℕ) (need passed : List ℕ) : Type 0 where

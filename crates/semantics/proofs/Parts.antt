@@ -1,4 +1,4 @@
--- Records taken in a tree, and the disjoint join of parts as numbers.
+-- Records taken in a tree, and the disjoint join of subheaps as numbers.
 use mathlib.Core.Path.{_≡_, refl, sym}
 use mathlib.Core.Logic.{⊎-elim}
 use mathlib.Core.List.{List, [], _∷_, _++_, map, List·Memᴰ·head, List·Memᴰ·cases-cons, List·Memᴰ·not-nil, Memᴰ·cast, List·Memᴰ·append-cases}

@@ -2,7 +2,7 @@
 use mathlib.Core.Path.{_≡_}
 use mathlib.Core.Logic.{_↔_, _⊎_, ⊎-elim, inl, inr}
 use mathlib.Core.Bool.{true}
-use mathlib.Core.List.{List, []}
+use mathlib.Core.List.{List}
 use Prim.Native.Nat.{ℕ, _*_, _≤_, _<_}
 use native.Mathlib.Omega.{arith}
 use lib.ListN.{length, take}
@@ -120,8 +120,8 @@ module _ (i : Input) (h : WellFormedInput i) where
       Verdict.completeness (i .ruleSet) (i .heap) (i .values) (h .valid) (i .predicate) (i .values) part (DomainFacts.query-good (i .ruleSet) (i .heap) (i .values)) tree
       (c .after) (c .complete)
 
-  -- So the query's fact with a subheap is in the complete table exactly if a finished tree takes that subheap; with every record, exactly if
-  -- the query fits.
+  -- So the query's fact with a subheap is in the complete table exactly if a finished tree takes that subheap; with every record, exactly
+  -- if the query fits.
   pub part-verdict : {r : ℕ} {xs : List ℕ} → CompletedInput i r xs → (part : ℕ) → part < 65536
       → (fact (domainOf i) (i .predicate) (i .values) part ∈ xs) ↔ ByHand (i .ruleSet) (i .heap) (i .predicate) (i .values) part
   part-verdict c = Verdict.part-verdict (i .ruleSet) (i .heap) (i .values) (h .valid) (c .after) (c .complete) (i .predicate) (i .values) (h .counted) (λ v m. m)
@@ -171,6 +171,9 @@ module _ (book snapshot question : List ℕ) where
       → Decided book snapshot question table space s u y → ContractFacts.Same r s t u x y
   decided-same = ContractFacts.decided-same book snapshot question
 
+  pub checked-same : (words : List ℕ) {r s : CheckReply} → Checked book snapshot question words r → Checked book snapshot question words s → r ≡ s
+  checked-same = ContractFacts.checked-same book snapshot question
+
   pub desk-decided-same : {m n : ℕ} → DeskDecided book snapshot question m → DeskDecided book snapshot question n → m ≡ n
   desk-decided-same = ContractFacts.desk-decided-same book snapshot question
 
@@ -181,22 +184,10 @@ module _ (book snapshot question : List ℕ) where
   pub decided-lengths : (table space : List ℕ) {r : Reply} {t x : List ℕ} → Decided book snapshot question table space r t x → ContractLengths.Keeps table space t x
   decided-lengths = ContractLengths.decided-lengths book snapshot question
 
-  -- The verdict of the contract: fits exactly if it fits by hand, does not fit exactly if it does not.
-  pub decided-verdict : (table space : List ℕ) {r : Reply} {t x : List ℕ} → Decided book snapshot question table space r t x → r .refusal ≡ 0
-      → (i : Input) × (ladder book snapshot question ≡ accepted i) × (((r .verdict ≡ 1) ↔ FitsInput i) × ((r .verdict ≡ 0) ↔ (¬ FitsInput i)))
-  decided-verdict = ContractFacts.decided-verdict book snapshot question
-
-  -- The check takes what the engine writes on fits, and what it takes opens.
+  -- The check takes what the engine writes on fits.
   pub decided-checks : (table space : List ℕ) {r : Reply} {t x : List ℕ} → Decided book snapshot question table space r t x → r .verdict ≡ 1
       → Checked book snapshot question (take (3 * r .lines) x) (record { refusal = 0; taken = 1 })
   decided-checks = ContractFacts.decided-checks book snapshot question
-
-  pub checked-opens : (words : List ℕ) (r : CheckReply) → Checked book snapshot question words r → r .taken ≡ 1
-      → (i : Input) × (ladder book snapshot question ≡ accepted i) × CertificateInput i words × FitsInput i
-  checked-opens words = ContractFacts.checked-opens book snapshot question [] [] words
-
-  pub checked-same : (words : List ℕ) {r s : CheckReply} → Checked book snapshot question words r → Checked book snapshot question words s → r ≡ s
-  checked-same = ContractFacts.checked-same book snapshot question
 
 -- ---- examples: the starred rows, and faults with their refusals
 

@@ -1,4 +1,5 @@
--- Soundness and completeness over the domain of a query, and the verdict: the complete table has the query's fact exactly if it fits by hand.
+-- Soundness and completeness over the domain of a query, and the verdict: the complete table has the query's fact exactly if it fits by
+-- hand.
 use mathlib.Core.Path.{_≡_, sym, ap, _∙_}
 use mathlib.Core.Logic.{_↔_}
 use mathlib.Core.List.{List, map}
@@ -13,7 +14,7 @@ use Rattle.semantics.specs.Tree.{ByHand, Fits}
 use Rattle.semantics.specs.Domain.{good, sparesOf, domain}
 use Rattle.semantics.specs.Fact.{fact, position, partOf, predicateOf, positionsOf, valuesAt}
 use Rattle.semantics.specs.Rounds.{After, Complete}
-use Rattle.semantics.proofs.Bits.{bit, bit-in, bit-out, decIn, whole-set, whole-members, whole-below}
+use Rattle.semantics.proofs.Bits.{whole-set, whole-members, whole-below}
 use Rattle.semantics.proofs.Coding.{short-positions, code-predicate, code-part, code-positions, values-back}
 use Rattle.semantics.proofs.Parts.{tree-below}
 use Rattle.semantics.proofs.Limits.{Limits}
@@ -21,15 +22,6 @@ use Rattle.semantics.proofs.Completeness.{Setting, by-hand-holds}
 use Rattle.semantics.proofs.DomainFacts.{setting-of, good-is-domain, query-good}
 use Rattle.semantics.proofs.FixedPoint.{table-holds, complete-has}
 use Rattle.semantics.proofs.Soundness.{Sound, sound, sound-fact, part-small}
-
--- the records of a tree are the bits of its part
-pub by-hand-bits : {ruleSet : RuleSet} {heap : Heap} {p : ℕ} {vs : List ℕ} {part : ℕ} (h : ByHand ruleSet heap p vs part) (i : ℕ) → (i ∈ h .taken) ↔ (bit part i ≡ 1)
-by-hand-bits {part} h i =
-    (λ m. ap (λ (n : ℕ). bit n i) (h .part-taken) ∙ bit-in (h .taken) (h .once) i m, λ e. step e (decIn i (h .taken)))
-  where
-    step : bit part i ≡ 1 → Dec (i ∈ h .taken) → i ∈ h .taken
-    step e (yes m) = m
-    step e (no n) = absurd (omega (arith, bit-out (h .taken) (h .once) i n, ap (λ (k : ℕ). bit k i) (h .part-taken)))
 
 -- every record exactly once, as a list and as a number
 pub fits-whole : {ruleSet : RuleSet} {heap : Heap} {p : ℕ} {vs : List ℕ} → Fits ruleSet heap p vs → ByHand ruleSet heap p vs (wholeOf heap)
@@ -63,12 +55,12 @@ module _ (ruleSet : RuleSet) (heap : Heap) (query : List ℕ) (valid : Valid rul
       complete-has ruleSet heap (domain ruleSet heap query) complete (fact (domain ruleSet heap query) p vs part)
       (by-hand-holds ruleSet heap (good ruleSet heap query) (sparesOf ruleSet heap query) (domain ruleSet heap query) setting p vs part all-good h)
 
-  -- Soundness: a fact of a table has a tree by hand, with its values and exactly its part.
+  -- Soundness: a fact of a table has a tree by hand, with its values and exactly its subheap.
   pub soundness : {r : ℕ} {xs : List ℕ} → After ruleSet heap (domain ruleSet heap query) r xs → (f : ℕ) → f ∈ xs
       → Sound ruleSet heap (domain ruleSet heap query) f
   soundness after f m = sound ruleSet heap (domain ruleSet heap query) limits f (table-holds ruleSet heap (domain ruleSet heap query) after f m)
 
-  -- The same, read off the number: predicate, the domain at its positions, part.
+  -- The same, read off the number: predicate, the domain at its positions, subheap.
   pub soundness-read : {r : ℕ} {xs : List ℕ} → After ruleSet heap (domain ruleSet heap query) r xs → (f : ℕ) → f ∈ xs
       → ByHand ruleSet heap (predicateOf f) (valuesAt (domain ruleSet heap query) (positionsOf (arity ruleSet (predicateOf f)) f)) (partOf f)
   soundness-read after f m =

@@ -43,17 +43,6 @@ empty-shares-none b s = omega (arith, s .left, zero-div (2 ^ s .place))
 
 -- ---- by the conjunction
 
-apart-fuel : (fuel a b : ℕ) → a ≤ fuel → ¬ Shares a b → bitAnd a b ≡ 0
-apart-fuel zero a b h n = let e : a ≡ 0 = omega arith in rw e (and-zero-l b)
-apart-fuel (suc fuel) a b h n = step (ℕ-discrete (a % 2) 1) (apart-fuel fuel (a / 2) (b / 2) (omega arith) (λ s. n (halves-share a b s)))
-  where
-    step : Dec (a % 2 ≡ 1) → bitAnd (a / 2) (b / 2) ≡ 0 → bitAnd a b ≡ 0
-    step (yes p) z = let even : b % 2 ≡ 1 → ⊥ = λ q. n (odd-share a b p q) in omega (arith, and-step a b)
-    step (no p) z = omega (arith, and-step a b)
-
-pub apart-and : (a b : ℕ) → ¬ Shares a b → bitAnd a b ≡ 0
-apart-and a b n = apart-fuel a a b (omega arith) n
-
 and-fuel : (fuel a b : ℕ) → a ≤ fuel → bitAnd a b ≡ 0 → ¬ Shares a b
 and-fuel zero a b h e s = let z : a ≡ 0 = omega arith in empty-shares-none b (rw z at s)
 and-fuel (suc fuel) a b h e s =
@@ -74,6 +63,13 @@ shared-fuel (suc fuel) a b h n = step (ℕ-discrete (a % 2) 1) (ℕ-discrete (b 
 
 pub and-shared : (a b : ℕ) → ¬ (bitAnd a b ≡ 0) → Shares a b
 and-shared a b n = shared-fuel a a b (omega arith) n
+
+apart-and : (a b : ℕ) → ¬ Shares a b → bitAnd a b ≡ 0
+apart-and a b n = step (ℕ-discrete (bitAnd a b) 0)
+  where
+    step : Dec (bitAnd a b ≡ 0) → bitAnd a b ≡ 0
+    step (yes e) = e
+    step (no z) = absurd (n (and-shared a b z))
 
 -- ---- what the test's answer says of the conjunction
 

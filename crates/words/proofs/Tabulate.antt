@@ -6,12 +6,15 @@ use Prim.Native.Nat.{ℕ, zero, suc, _+_, _<_}
 use native.Mathlib.Omega.{arith}
 use lib.ListN.{length, getD}
 use Rattle.semantics.specs.Lists.{_∈_}
-use Rattle.words.specs.Block.{tabulate}
+use Rattle.words.specs.Block.{tabulate, entries}
 
 pub tabulate-length : {A : Type 0} (n : ℕ) (f : ℕ → A) → length (tabulate n f) ≡ n
 unfolding tabulate
 tabulate-length zero f = refl
 tabulate-length (suc n) f = ap suc (tabulate-length n (λ i. f (suc i)))
+
+pub entries-length : (block : List ℕ) (from n : ℕ) → length (entries block from n) ≡ n
+entries-length block from n = tabulate-length n (λ (i : ℕ). getD block (from + i) 0)
 
 pub tabulate-at : {A : Type 0} (n : ℕ) (f : ℕ → A) (d : A) (i : ℕ) → i < n → getD (tabulate n f) i d ≡ f i
 unfolding tabulate
