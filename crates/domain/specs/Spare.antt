@@ -11,7 +11,7 @@ use Rattle.words.specs.Block.{entries, heapIn}
 abbrev pub queryValues : List ℕ → List ℕ
 queryValues query = entries query 2 (getD query 1 0)
 
--- The query's values, all addresses and fields: all good values but nil.
+-- What the query and the heap give: all good values but nil.
 abbrev pub given : List ℕ → List ℕ → List ℕ
 given heap query = queryValues query ++ heapValues (heapIn heap)
 
@@ -35,7 +35,7 @@ pub record Spare (values : List ℕ) (start v : ℕ) : Type 0 where
   pub taken : (k : ℕ) → start ≤ k → k < v → k ∈ values
 
 -- The first n values of the array are those of the list, ascending and without repeat.
-pub record Holds (domain : List ℕ) (n : ℕ) (values : List ℕ) : Type 0 where
+pub record Carries (domain : List ℕ) (n : ℕ) (values : List ℕ) : Type 0 where
   pub long : length domain ≡ 96
   pub few : n ≤ length values
   pub is : take n domain ≡ ascending values
