@@ -58,8 +58,8 @@ pub data FoundRecord (records : List ℕ) (wanted : Record) (r : ℕ) : Type 0 w
   found : FirstRecord records wanted r → FoundRecord records wanted r
   none : r ≡ getD records 0 0 → ((i : ℕ) → i < getD records 0 0 → recordIn records (1 + 6 * i) ≢ wanted) → FoundRecord records wanted r
 
--- The subheaps of the called lines, joined one by one to the records used so far, make up the part. The called lines are the digits of a
--- word that has nothing above them.
+-- The subheaps of the called lines, joined one by one to the records used so far, make up the subheap `part`. The called lines are the
+-- digits of a word that has nothing above them.
 pub data CallsJoin (words : List ℕ) (k : ℕ) (σ : List ℕ) (part : ℕ) : List Call → ℕ → ℕ → Type 0 where
   next : {call : Call} {calls : List Call} {lines used : ℕ}
       → CallsLine words k σ call (lines % 65536) → bitAnd (partOf (factAt words (lines % 65536))) used ≡ 0
@@ -75,7 +75,7 @@ pub data AtomsJoin (records σ : List ℕ) (after : ℕ → Type 0) : List Point
       → AtomsJoin records σ after (atom ∷ atoms) used
   done : {used : ℕ} → after used → AtomsJoin records σ after [] used
 
--- The records and called lines of line k, an instance of the rule at a place, make up the part of its fact.
+-- The records and called lines of line k, an instance of the rule at a place, make up the subheap of its fact.
 abbrev pub CallsOf : List ℕ → ℕ → List ℕ → ℕ → ℕ → Type 0
 CallsOf rules at words k used =
     CallsJoin words k (givenBy (positionsAt words k)) (partOf (factAt words k)) (ruleIn rules at .calls) (ruleAt words k / 256) used
@@ -96,7 +96,7 @@ pub record LineIn (rules records : List ℕ) (n : ℕ) (words : List ℕ) (k : �
   pub in-rule-set : ruleAt words k % 256 < getD rules 1 0
   pub holds : InstanceIn rules records n words k (16 + 72 * (ruleAt words k % 256))
 
--- The words are 1 to 65,535 whole lines, each holds, and the last has the expected fact.
+-- The words are lines, at least one and at most 65,535; each holds, and the last has the expected fact.
 pub record LinesIn (rules records : List ℕ) (n last : ℕ) (words : List ℕ) : Type 0 where
   pub some : 1 ≤ length words / 3
   pub most : length words / 3 ≤ 65535

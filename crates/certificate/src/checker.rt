@@ -18,13 +18,7 @@ ghost use Rattle.words.specs.Subheap.{Told};
 ghost use Rattle.search.specs.InBlock.{headArity};
 ghost use Rattle.search.specs.Ready.{Ready};
 ghost use Rattle.certificate.specs.Line.{givenBy, Positions, RuleAt, CallAt, PuresHold, FoundRecord, CallsLine, CallsOf, JoinOf, InstanceIn, LineIn, Checked};
-
-// A byte as a count or an index.
-fn wide(byte: u8) -> usize
-    ensures { λ r. ⌜ (r ≡ byte) × (r < 256) ⌝ }
-{
-    byte as usize
-}
+use search::wide;
 
 // The number of arguments of the predicate that the byte at a place names.
 fn arity(rules: &[u8; 1168], at: usize) -> usize
@@ -255,7 +249,8 @@ fn calls_line(
     fact == call_fact(rules, at, word, part_of(fact))
 }
 
-// Whether the lines that line k calls are those of the rule's calls, and their subheaps, joined to the records used, make up its part.
+// Whether the lines that line k calls are those of the rule's calls, and their subheaps, joined to the records used, make up the subheap
+// of its fact.
 fn calls_join(rules: &[u8; 1168], at: usize, words: &[u64], k: usize, used: u16) -> bool
     requires { ⌜ RuleAt (now rules) at × (1 ≤ k) × (3 * k ≤ length (now words)) ⌝ }
     ensures { λ (r : Bool). ⌜ Told r (CallsOf (now (rules .entry)) at (now (words .entry)) k used) ⌝ }
@@ -284,7 +279,7 @@ fn calls_join(rules: &[u8; 1168], at: usize, words: &[u64], k: usize, used: u16)
     sum == part_of(fact_at(words, k))
 }
 
-// Whether the records of the rule's points-to atoms and the subheaps that line k calls make up its part.
+// Whether the records of the rule's points-to atoms and the subheaps that line k calls make up the subheap of its fact.
 fn joined(rules: &[u8; 1168], at: usize, records: &[u8; 97], words: &[u64], k: usize) -> bool
     requires { ⌜ RuleAt (now rules) at × (getD (now records) 0 0 ≤ 16) × (1 ≤ k) × (3 * k ≤ length (now words)) ⌝ }
     ensures { λ (r : Bool). ⌜ Told r (JoinOf (now (rules .entry)) at (now (records .entry)) (now (words .entry)) k) ⌝ }
