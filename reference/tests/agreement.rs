@@ -155,7 +155,8 @@ fn facts_for_the_whole_pool_fit_when_asked() {
     );
 }
 
-/// No fact twice, and each line but the last is called by a later one.
+/// What the engine's unfoldings have besides: facts that all differ, and before
+/// the last no line that nothing further down calls.
 fn engine_promises(words: &[u64]) {
     let lines = words.len() / 3;
     let facts: BTreeSet<u64> = words.iter().step_by(3).copied().collect();

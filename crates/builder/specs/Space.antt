@@ -47,8 +47,8 @@ pub record Grounded (ruleSet : RuleSet) (heap : Heap) (domain table : List ℕ) 
   pub written : positions ≡ digits 256 (map (position domain) (ground .arguments ++ ground .bound))
   pub named : names ≡ number + 256 * digits 65536 (map suc places)
 
--- The marked places up to `at`: the last is marked, what a marked place calls is marked and before it, and each marked place but the last is
--- called by a later one.
+-- The marked places up to `at`, which is one of them. A marked place calls only marked places before it, and each but `at` is called from
+-- a marked place after it.
 pub record Planned (at : ℕ) (space : List ℕ) : Type 0 where
   pub root : markAt space at ≢ 0
   pub calls : (i : ℕ) → i ≤ at → markAt space i ≢ 0 → (k : ℕ) → k < 3

@@ -1,4 +1,4 @@
--- The three shapes of the house book H, written out: segment (predicate 0), ring (1), and queue with free chain (2).
+-- The house book H, written out: a list segment is predicate 0, a ring 1, a queue with its free chain 2.
 use mathlib.Core.List.{[], _∷_}
 use Rattle.semantics.specs.RuleSet.{Term, var, fixed, equal, Call, Rule, RuleSet}
 

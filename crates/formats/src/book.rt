@@ -180,7 +180,7 @@ fn calls(s: &[u8], c: Cursor, block: &mut [u8], from: usize, count: u8, n: u8) -
     next
 }
 
-// What follows a rule's head and number of bound variables: pure conditions, points-to atoms and calls, over `n` variables.
+// The rest of a rule over `n` variables: its pure conditions, its points-to atoms and its calls.
 fn body(s: &[u8], c: Cursor, block: &mut [u8], at: usize, n: u8) -> Cursor
     requires { ⌜ (n ≤ 8) × Header (now block) × (16 ≤ at) × (at + 72 ≤ length (now block)) ⌝ }
     ensures { λ r. ⌜ Body at n (now (s .entry)) c (now (block .entry)) (now (block .exit)) r ⌝ }

@@ -57,7 +57,7 @@ pub fn read(
 
 // ---- the house book
 
-// H: segment (predicate 0), ring (1), and queue with free chain (2).
+// H: a list segment is predicate 0, a ring 1, a queue with its free chain 2.
 pub const HOUSE: [u8; 46] = [
     3, // predicates
     2, // arguments of segment
@@ -70,12 +70,12 @@ pub const HOUSE: [u8; 46] = [
     0, // equal
     0, // a
     1, // b
-    0, // no cell
+    0, // no atom
     0, // no call
     0, // segment(a, b)
     1, // c is bound
     0, // no condition
-    1, // a cell:
+    1, // an atom:
     0, // at a
     1, // with one field
     2, // c
@@ -86,7 +86,7 @@ pub const HOUSE: [u8; 46] = [
     1, // ring(a)
     1, // b is bound
     0, // no condition
-    1, // a cell:
+    1, // an atom:
     0, // at a
     1, // with one field
     1, // b
@@ -97,7 +97,7 @@ pub const HOUSE: [u8; 46] = [
     2, // queue with free chain (a, b)
     0, // nothing bound
     0, // no condition
-    0, // no cell
+    0, // no atom
     2, // two calls:
     0, // segment
     0, // a

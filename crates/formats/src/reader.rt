@@ -1,4 +1,4 @@
-// The reader: lent bytes together with the count of those already read. Bytes are looked at here and nowhere else in the crate. A function
+// The reader: the lent bytes, and how many of them have been read. Bytes are looked at here and nowhere else in the crate. A function
 // over a struct that holds a reference is proved by a walk of its code, so there are two, and neither branches; `byte_at` does the work.
 // `read_at` has plain parameters: whoever calls it needs no such walk.
 use super::Cursor;

@@ -43,8 +43,8 @@ const TWO: [u8; 10] = [0, 2, 5, 0, 0, 0, 6, 0, 0, 0];
 
 const FOUR: [u8; 18] = [0, 4, 5, 0, 0, 0, 6, 0, 0, 0, 7, 0, 0, 0, 8, 0, 0, 0];
 
-// L in parts. A part of a book that is read ends where a byte is due: 1 from no bytes to all but one (row 11). All 22 are read, and a byte
-// more follows the last section: 4 (row 11). Then L with 200 at each place.
+// L in parts. Of a book that is read, every shorter beginning is refused by 1 (row 11). All 22 bytes are read, and one more is refused by
+// 4 (row 11). Then L with 200 at each place.
 pub(crate) fn segment() {
     open(b"L cut:");
     cut(Block::Book, &SEGMENT, &TWO);

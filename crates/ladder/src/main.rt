@@ -36,14 +36,17 @@ fn book(bytes: &[u8], question: &[u8]) {
     show(bytes, &EMPTY, question);
 }
 
+// A snapshot alone, with the plain book and the question about it.
 fn snapshot(bytes: &[u8]) {
     show(&PLAIN, bytes, &ASKS);
 }
 
+// A group's line begins with its name.
 fn open(name: &[u8]) {
     io::write_all(STDOUT_FILENO, name);
 }
 
+// And ends.
 fn close() {
     io::write_all(STDOUT_FILENO, b"\n");
 }

@@ -12,6 +12,7 @@ pub record PartAt (s : List ℕ) (at from upto : ℕ) : Type 0 where
   pub bytes : take (upto - from) (drop from s) ≡ firstPart (drop at s)
   pub after : drop upto s ≡ otherParts (drop at s)
 
+-- Book, snapshot and question, each from where the one before ends.
 pub record Splits (input : List ℕ) (from upto from′ upto′ from″ upto″ : ℕ) : Type 0 where
   pub book : PartAt input 0 from upto
   pub snapshot : PartAt input upto from′ upto′

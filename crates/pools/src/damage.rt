@@ -5,7 +5,7 @@
 // - Whole: 1.
 // - Flipped: 0. In these rows a line's fact and the lines that it calls leave no variable free. One bit of a fact or of a position is at
 //   odds with the other or with what is called; one bit of a rule names none, one of another predicate, or one with other conditions,
-//   cells or calls; one bit of a called line names line 0 or one that is not earlier; any other bit must be 0.
+//   atoms or calls; one bit of a called line names line 0 or one that is not earlier; any other bit must be 0.
 // - Complemented: 0. Each word has bits that must be 0.
 // - Less a line: 0. The last line is not the question with every record, or there is none.
 // - Less a word: 0. The lines are not whole.

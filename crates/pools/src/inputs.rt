@@ -5,7 +5,7 @@ pub(crate) const SEGMENT: [u8; 22] = *b"\x01\x02\x02\
     \0\0\x01\0\0\x01\0\0\
     \0\x01\0\x01\0\x01\x02\x01\0\x02\x01";
 
-// Book S: P(a) if b unequal a and Q(a, b); Q(a, b) if empty.
+// Book S: P(a) where some b other than a has Q(a, b); Q(a, b) for all a and b, of no record.
 pub(crate) const SPARE: [u8; 20] = *b"\x02\x01\x02\x02\
     \0\x01\x01\x01\x01\0\0\x01\x01\0\x01\
     \x01\0\0\0\0";

@@ -46,17 +46,17 @@ pub(crate) fn endless() {
     );
 }
 
-// A fact may be called twice by a rule if it uses no record, and not otherwise.
+// One rule may call a fact two times over if that has no record, and not otherwise.
 pub(crate) fn twice() {
     // Q in round 1, P in round 2, a line for each.
     ask(b"an empty part called twice", &TWICE, &NONE, &PLAIN);
-    // Q of the record, and no second part for P.
+    // Q of the record, and none left for the second Q.
     ask(b"two calls, a record", &CALLS, &FIRST, &PLAIN);
     // Q of each record, then P of both: three lines.
     ask(b"two calls, two records", &CALLS, &BOTH, &PLAIN);
 }
 
-// A cell shares no record with a call, nor with another cell.
+// A points-to atom shares no record with a call, nor with another atom.
 pub(crate) fn shared() {
     // P if x points to no fields and Q; Q as above.
     let along = [2, 0, 0, 2, 0, 1, 0, 1, 0, 0, 1, 1, 1, 1, 0, 1, 0, 0, 0];
@@ -119,7 +119,7 @@ pub(crate) fn depth() {
     ask(b"eight calls deep, a record", &eight, &FIRST, &PLAIN);
 }
 
-// The question is about the whole pool.
+// The query is about the whole heap.
 pub(crate) fn whole() {
     // The segment (20, 20) holds of no records. Domain 0 10 20 and 3 spares: 6 empty segments, then that of 10:(20).
     ask(
@@ -137,7 +137,7 @@ pub(crate) fn whole() {
     );
 }
 
-// A cell is a record with exactly its fields, in order.
+// A points-to atom takes a record with exactly its fields, in order.
 pub(crate) fn fields() {
     // 10:(20, 30) is no segment. Domain 0 10 20 30 and 3 spares: 7 empty segments.
     ask(
@@ -197,7 +197,7 @@ pub(crate) fn called() {
         &PLAIN,
         &[Q, 0, 1 + 2 * CALL, 0, 0, CALL],
     );
-    // An empty part joins with itself.
+    // The empty subheap joins with itself.
     offer(
         b"an empty line called twice",
         &TWICE,
@@ -205,7 +205,7 @@ pub(crate) fn called() {
         &PLAIN,
         &[Q, 0, 1, 0, 0, CALL + SECOND],
     );
-    // Only the engine's certificates have no fact twice, and call each line but the last.
+    // What only the engine's certificates must have: facts that all differ, and a call of every line before the last.
     offer(
         b"a fact twice, both called",
         &TWICE,
@@ -224,7 +224,7 @@ pub(crate) fn called() {
 
 // Which records lines may use. The domains are 0 1 10 and 0 1 10 20, so that the addresses have positions 2 and 3.
 pub(crate) fn joined() {
-    // A part with a record does not join with itself, whichever records the caller says it uses.
+    // A subheap with a record does not join with itself, whichever records the caller says it uses.
     offer(
         b"a record counted twice",
         &CALLS,
@@ -239,7 +239,7 @@ pub(crate) fn joined() {
         &PLAIN,
         &[Q + 1, 2, 1, 3, 0, CALL + SECOND],
     );
-    // Two parts with a record each join.
+    // Two subheaps with a record each join.
     offer(
         b"a record each",
         &CALLS,

@@ -18,6 +18,7 @@ pub fn reply(answer: Reply) {
     number(b" lines ", answer.lines);
 }
 
+// The end of a line.
 pub fn close() {
     io::write_all(STDOUT_FILENO, b"\n");
 }

@@ -1,6 +1,7 @@
--- Certificates (paper 01: unfoldings written as lines, and the conditions for lines). Lines count from 1 and have three words each: the
--- fact; the positions of all variables, eight bits each, variable 0 lowest; the rule in bits 0 to 7 and the called lines from bit 8 on,
--- sixteen bits each.
+-- Certificates (paper 01: unfoldings written as lines, and the conditions for lines). A line is three words, and the first line has the
+-- number 1. The first word is the fact. The second has a byte for each variable of the rule, from the low end up: the position of its
+-- value. The third has the rule's number in its lowest byte, and above it sixteen bits for each call: the number of the line that is
+-- called.
 use mathlib.Core.List.{List, [], _∷_, _++_, map}
 use mathlib.Core.Path.{_≡_}
 use mathlib.Core.Logic.{_≢_}
@@ -23,7 +24,7 @@ positionsAt words k = getD words (3 * k - 2) 0
 abbrev pub ruleAt : List ℕ → ℕ → ℕ
 ruleAt words k = getD words (3 * k - 1) 0
 
--- The second and third word: the positions of all variables, the number of a rule that exists, and the called lines; other bits are 0.
+-- What the second and the third word of line k say: rule, values and lines called. All bits beyond these are 0.
 pub record Written (ruleSet : RuleSet) (domain words : List ℕ) (k : ℕ) (rule : Rule) (values lines : List ℕ) : Type 0 where
   pub number : ℕ
   pub in-rule-set : number < length (ruleSet .rules)
@@ -38,8 +39,8 @@ pub record LineHolds (ruleSet : RuleSet) (heap : Heap) (domain words : List ℕ)
   pub ground : Ground ruleSet heap domain (map (factAt words) lines) (factAt words k)
   pub written : Written ruleSet domain words k (ground .rule) (ground .arguments ++ ground .bound) lines
 
--- The conditions for lines: 1 to 65,535 whole lines, each holds, and the last is the predicate with these values and exactly this
--- subheap. `calls k` lists the lines that line k calls.
+-- The conditions for lines: the words are lines, at least one and at most 65,535; each holds; and the last has the fact of the predicate
+-- with these values and exactly this subheap. `calls k` lists the lines that line k calls.
 pub record Certificate (ruleSet : RuleSet) (heap : Heap) (domain : List ℕ) (predicate : ℕ) (values : List ℕ) (part : ℕ) (words : List ℕ) : Type 0 where
   pub count : ℕ
   pub some : 1 ≤ count
@@ -49,14 +50,15 @@ pub record Certificate (ruleSet : RuleSet) (heap : Heap) (domain : List ℕ) (pr
   pub each : (k : ℕ) → 1 ≤ k → k ≤ count → LineHolds ruleSet heap domain words k (calls k)
   pub last : factAt words count ≡ fact domain predicate values part
 
--- The engine's kind of certificate: no fact stands in it twice, and each line but the last is called by a later one.
+-- The engine's kind of certificate has nothing to spare: two lines never have one fact, and every line before the last is called from
+-- further down.
 pub record Trimmed (ruleSet : RuleSet) (heap : Heap) (domain : List ℕ) (predicate : ℕ) (values : List ℕ) (part : ℕ) (words : List ℕ) : Type 0 where
   pub taken : Certificate ruleSet heap domain predicate values part words
   pub once : (j k : ℕ) → 1 ≤ j → j < k → k ≤ taken .count → factAt words j ≢ factAt words k
   pub used : (k : ℕ) → 1 ≤ k → k < taken .count → (j : ℕ) × (k < j) × (j ≤ taken .count) × (k ∈ taken .calls j)
 
--- The tree is line k opened: its top node has the line's fact, rule and values, and under it hang the lines that line k calls, opened in
--- the same way, once for each call.
+-- The tree is line k opened: it starts with the line's fact, rule and values, and its branches are the lines that line k calls, each
+-- opened in turn; a line that is called twice has two branches.
 module _ (ruleSet : RuleSet) (heap : Heap) (domain words : List ℕ) where
   abbrev mutual
     pub Opens : ℕ → {predicate : ℕ} {arguments taken : List ℕ} → Tree ruleSet heap predicate arguments taken → Type 0
@@ -69,7 +71,8 @@ module _ (ruleSet : RuleSet) (heap : Heap) (domain words : List ℕ) where
     OpensAll lines (Forest.next here rest tree forest t) =
         (line : ℕ) × (others : List ℕ) × (lines ≡ line ∷ others) × Opens line tree × OpensAll others forest
 
--- What a certificate opens into: a finished tree by hand with this predicate, these values and exactly this subheap, which is line k opened.
+-- What a certificate opens into: a finished tree by hand with this predicate, these values and exactly this subheap, which is line k
+-- opened.
 pub record Opened (ruleSet : RuleSet) (heap : Heap) (domain words : List ℕ) (k p : ℕ) (vs : List ℕ) (part : ℕ) : Type 0 where
   pub taken : List ℕ
   pub tree : Tree ruleSet heap p vs taken

@@ -24,11 +24,11 @@ domainOf i = domain (i .ruleSet) (i .heap) (i .values)
 abbrev pub HoldsInput : Input → ℕ → Type 0
 HoldsInput i = Holds (i .ruleSet) (i .heap) (domainOf i)
 
--- Verdict fits: a finished unfolding by hand from the query uses each record exactly once.
+-- The verdict fits: some finished tree for the query has all records of the heap.
 abbrev pub FitsInput : Input → Type 0
 FitsInput i = Fits (i .ruleSet) (i .heap) (i .predicate) (i .values)
 
--- The conditions for lines; the last line is the query with every record.
+-- The words are a certificate of the query for the whole heap, of any kind and of the engine's kind.
 abbrev pub CertificateInput : Input → List ℕ → Type 0
 CertificateInput i words = Certificate (i .ruleSet) (i .heap) (domainOf i) (i .predicate) (i .values) (wholeOf (i .heap)) words
 
@@ -37,23 +37,24 @@ TrimmedInput i words = Trimmed (i .ruleSet) (i .heap) (domainOf i) (i .predicate
 
 -- ---- refusals 10 and 11
 
--- A table of 1 to 65,535 lines, and three words of unfolding space for each: refusal 10 is given where this is not so.
+-- Memory as it must be lent: a table that is not empty and no longer than 65,535 words, and an unfolding space three times as long.
+-- Anything else is refusal 10.
 pub record Lent (lines words : ℕ) : Type 0 where
   pub some : 1 ≤ lines
   pub most : lines ≤ 65535
   pub three : words ≡ 3 * lines
 
--- Refusal 11: there are more facts than n.
+-- More than n facts hold: refusal 11, where the table has n lines.
 abbrev pub MoreFactsThan : Input → ℕ → Type 0
 MoreFactsThan i n = MoreThan n (HoldsInput i)
 
 -- ---- the table
 
--- Memory of n places that starts with xs; places after the last are 0.
+-- Memory of n words that starts with xs and is 0 from there on.
 abbrev pub padded : ℕ → List ℕ → List ℕ
 padded n xs = xs ++ zeros (n - length xs)
 
--- All facts by round, then ascending, and the number of the last round with a fact.
+-- Every fact that holds, in the order of the rounds, and how many rounds gave one.
 pub record Completed (ruleSet : RuleSet) (heap : Heap) (domain : List ℕ) (rounds : ℕ) (facts : List ℕ) : Type 0 where
   pub after : After ruleSet heap domain rounds facts
   pub complete : Complete ruleSet heap domain facts
@@ -72,7 +73,7 @@ FilledInput i = Filled (i .ruleSet) (i .heap) (domainOf i)
 
 -- ---- the engine
 
--- On a refusal all but the first number are 0.
+-- What a refused call replies: its number and nothing else.
 abbrev pub refusalReply : ℕ → Reply
 refusalReply n = record { refusal = n; verdict = 0; facts = 0; rounds = 0; lines = 0 }
 
@@ -87,8 +88,8 @@ pub data Answers (i : Input) (n : ℕ) (reply : Reply) (table space : List ℕ) 
       → reply ≡ record { refusal = 0; verdict = 0; facts = length facts; rounds = rounds; lines = 0 }
       → space ≡ zeros (3 * n) → Answers i n reply table space
 
--- The contract of `decide`: from bytes and lent memory to the reply and that memory afterwards. Refusals 1 to 9 (unread) and 10 (unlent)
--- leave it as found.
+-- The contract of `decide`: from bytes and lent memory to the reply and that memory afterwards. Where the bytes are refused (unread: 1 to
+-- 9) or the memory is (unlent: 10), nothing lent is changed.
 pub data Decided (book snapshot question table space : List ℕ) (reply : Reply) (table′ space′ : List ℕ) : Type 0 where
   unread : (n : ℕ) → ladder book snapshot question ≡ refused n → reply ≡ refusalReply n → table′ ≡ table → space′ ≡ space
       → Decided book snapshot question table space reply table′ space′
@@ -99,7 +100,8 @@ pub data Decided (book snapshot question table space : List ℕ) (reply : Reply)
 
 -- ---- the check
 
--- The contract of `check`: a refusal of 1 to 9 and 0, or 0 and whether the words meet the conditions for lines. It is lent nothing to change.
+-- The contract of `check`: a refusal of 1 to 9 and 0, or 0 and whether the words meet the conditions for lines. It is lent nothing to
+-- change.
 pub data Checked (book snapshot question words : List ℕ) (reply : CheckReply) : Type 0 where
   unread : (n : ℕ) → ladder book snapshot question ≡ refused n → reply ≡ record { refusal = n; taken = 0 }
       → Checked book snapshot question words reply
@@ -110,11 +112,11 @@ pub data Checked (book snapshot question words : List ℕ) (reply : CheckReply) 
 
 -- ---- the desk's two entries
 
--- Each entry gives one number: twice the refusal plus the second number of the reply.
+-- What an entry for C returns: the refusal doubled, and one more where the verdict is fits or the check takes.
 abbrev pub deskNumber : ℕ → ℕ → ℕ
 deskNumber refusal second = 2 * refusal + second
 
--- The engine with 1,024 lines of the entry's own.
+-- The entry for the engine: table and unfolding space are its own and are 0 before the call, with 1,024 lines of table.
 pub record DeskDecided (book snapshot question : List ℕ) (number : ℕ) : Type 0 where
   pub reply : Reply
   pub table : List ℕ
@@ -122,7 +124,7 @@ pub record DeskDecided (book snapshot question : List ℕ) (number : ℕ) : Type
   pub decided : Decided book snapshot question (zeros 1024) (zeros 3072) reply table space
   pub is-number : number ≡ deskNumber (reply .refusal) (reply .verdict)
 
--- Words as bytes, eight to a word, lowest first.
+-- The bytes of words: eight for each, from its low end up.
 abbrev pub bytesOf : List ℕ → List ℕ
 bytesOf [] = []
 bytesOf (w ∷ words) = digitsOf 256 8 w ++ bytesOf words
@@ -145,8 +147,9 @@ pub data DeskChecked (book snapshot question bytes : List ℕ) (number : ℕ) : 
 
 -- ---- the bench program's input
 
--- Of at most 4,096 bytes, three parts, each after a two-byte length, low byte first. A missing byte of a length counts as 0; a length
--- beyond the input takes what there is; later bytes are ignored. The program lends 1,024 lines.
+-- How an input is cut in three: each part has its length in front, in two bytes, the second of which counts 256s. Where the input ends
+-- too soon, a length byte that is not there is 0 and a part has the bytes that are left; what comes after the third part is not looked
+-- at.
 abbrev pub partLength : List ℕ → ℕ
 partLength bytes = getD bytes 0 0 + 256 * getD bytes 1 0
 
@@ -165,7 +168,7 @@ house =
     ∷ 1 ∷ 1 ∷ 0 ∷ 1 ∷ 0 ∷ 1 ∷ 1 ∷ 1 ∷ 0 ∷ 1 ∷ 0
     ∷ 2 ∷ 0 ∷ 0 ∷ 0 ∷ 2 ∷ 0 ∷ 0 ∷ 255 ∷ 0 ∷ 1 ∷ 255 ∷ []
 
--- An empty book part stands for the house book.
+-- Where the part of the book has no bytes, the house book is meant.
 abbrev pub bookOr : List ℕ → List ℕ
 bookOr [] = house
 bookOr (b ∷ bytes) = b ∷ bytes

@@ -154,7 +154,7 @@ readQuery arities bytes = all 9 (query arities bytes)
 
 -- ---- refusals 1 to 9
 
--- What was read, where none of refusals 1 to 9 is earned.
+-- What was read, if nothing was refused.
 pub record Input : Type 0 where
   pub ruleSet : RuleSet
   pub heap : Heap

@@ -1,6 +1,6 @@
--- Meaning (source 000, definitions 2.3 and 2.4): a rule holds for a subheap that is the disjoint join of its points-to atoms and calls, and a
--- predicate by the least fixed point of its rules. Variables take any whole numbers. Only subheaps of the one heap are spoken of: what a rule joins are
--- parts of the part that it holds for.
+-- Meaning (source 000, definitions 2.3 and 2.4): a rule holds for a subheap that its points-to atoms and calls divide among them and
+-- share nowhere, and a predicate by the least fixed point of its rules. Variables take any whole numbers. Only subheaps of the one heap
+-- are spoken of: what a rule joins lies within the subheap that it holds for.
 use mathlib.Core.List.{List, [], _∷_, _++_, map}
 use mathlib.Core.Path.{_≡_}
 use Prim.Native.Nat.{ℕ, _^_}

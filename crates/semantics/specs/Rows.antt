@@ -51,7 +51,7 @@ bookL =
     ∷ 0 ∷ 0 ∷ 1 ∷ 0 ∷ 0 ∷ 1 ∷ 0 ∷ 0
     ∷ 0 ∷ 1 ∷ 0 ∷ 1 ∷ 0 ∷ 1 ∷ 2 ∷ 1 ∷ 0 ∷ 2 ∷ 1 ∷ []
 
--- Book S: P(a) if b unequal a and Q(a, b); Q(a, b) if empty.
+-- Book S: P(a) where some b other than a has Q(a, b); Q(a, b) for all a and b, of no record.
 abbrev pub bookS : List ℕ
 bookS =
     2 ∷ 1 ∷ 2 ∷ 2

@@ -65,7 +65,7 @@ mutual
         → taken ≡ here ++ rest
         → Forest ruleSet heap σ (call ∷ calls) taken
 
--- A finished unfolding by hand that takes exactly the records of the set `part`.
+-- A finished unfolding by hand that takes exactly the records of the subheap `part`.
 pub record ByHand (ruleSet : RuleSet) (heap : Heap) (predicate : ℕ) (arguments : List ℕ) (part : ℕ) : Type 0 where
   pub taken : List ℕ
   pub tree : Tree ruleSet heap predicate arguments taken

@@ -8,7 +8,7 @@ pub record Told (r : Bool) (P : Type 0) : Type 0 where
   pub so : r ≡ true → P
   pub not-so : r ≡ false → ¬ P
 
--- Some bit is one in both: a record of both subheaps.
+-- The words share a bit: both subheaps have that record.
 pub record Shares (a b : ℕ) : Type 0 where
   pub place : ℕ
   pub left : a / 2 ^ place % 2 ≡ 1
