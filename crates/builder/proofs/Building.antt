@@ -1,11 +1,11 @@
--- The steps of the builder, one after the other: a cleared space, the plan, the numbers, the lines at the start, and zeros after them.
+-- The steps of the builder, one after the other: cleared places, the plan, the numbers, the lines at the start, and zeros after them.
 use mathlib.Core.List.{List, _++_}
 use mathlib.Core.Logic.{_≢_}
 use mathlib.Core.Path.{_≡_, sym, ap, _∙_}
 use Prim.Native.Nat.{ℕ, suc, _-_, _*_, _≤_, _<_}
 use native.Mathlib.Omega.{arith}
 use native.Mathlib.Decide.{ℕ-discrete}
-use lib.ListN.{length, getD, take, length-replicate}
+use lib.ListN.{length, getD, take, drop, length-replicate, List·getD-append}
 use lib.Seq.{getD-take, length-take-le}
 use Rattle.semantics.specs.Certificate.{factAt, positionsAt, ruleAt}
 use Rattle.semantics.specs.Contract.{padded}
@@ -21,12 +21,12 @@ use Rattle.builder.specs.Plan.{Lent, Plans, Builds}
 use Rattle.builder.proofs.Counting.{count-below, count-apart}
 use Rattle.builder.proofs.Lines.{Described, certifies}
 
--- a cleared space has no marks
-pub cleared-long : (space after : List ℕ) → after ≡ take 0 space ++ zeros (length space - 0) → length after ≡ length space
-cleared-long space after e = ap length e ∙ length-replicate (length space - 0) 0 ∙ omega arith
-
-pub cleared-marks : (space after : List ℕ) → after ≡ take 0 space ++ zeros (length space - 0) → (i : ℕ) → markAt after i ≡ 0
-cleared-marks space after e i = ap (λ (s : List ℕ). markAt s i) e ∙ zeros-at (length space - 0) (3 * i)
+-- the cleared places have no marks
+pub cleared-marks : (space after : List ℕ) (at : ℕ) → after ≡ (take 0 space ++ zeros (3 * at - 0)) ++ drop (3 * at) space → (i : ℕ) → i < at → markAt after i ≡ 0
+cleared-marks space after at e i l =
+    ap (λ (s : List ℕ). markAt s i) e
+    ∙ List·getD-append (zeros (3 * at - 0)) (drop (3 * at) space) 0 (3 * i) (omega (arith, length-replicate {A = ℕ} (3 * at - 0) 0))
+    ∙ zeros-at (3 * at - 0) (3 * i)
 
 -- what the plan and the numbers ask of it
 pub lent-cleared : {rules records : List ℕ} {n : ℕ} {table : List ℕ} {at : ℕ} {space after : List ℕ} → Lent rules records n table at space → length after ≡ length space

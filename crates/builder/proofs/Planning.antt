@@ -152,12 +152,12 @@ pub record PlannedFrom (rules records : List ℕ) (n : ℕ) (table : List ℕ) (
   pub grounds : (j : ℕ) → i ≤ j → j ≤ at → markAt space j ≢ 0 → GroundedAt rules records n table j (positionsIn space j) (namesIn space j)
 
 module _ {rules records : List ℕ} {n : ℕ} {table : List ℕ} {at : ℕ} where
-  pub planned-start : (space : List ℕ) → ((i : ℕ) → markAt space i ≡ 0) → 3 * at < length space → PlannedFrom rules records n table at (at + 1) (set space (3 * at) 1)
+  pub planned-start : (space : List ℕ) → ((i : ℕ) → i < at → markAt space i ≡ 0) → 3 * at < length space → PlannedFrom rules records n table at (at + 1) (set space (3 * at) 1)
   planned-start space zeros l = record {
     upto = omega arith;
     root = λ e. omega (arith, getD-set-same space (3 * at) 1 0 l);
     calls = λ j h k. absurd (omega arith);
-    used = λ j h z. absurd (z (mark-other space at j 1 (λ e. omega arith) ∙ zeros j));
+    used = λ j h z. absurd (z (mark-other space at j 1 (λ e. omega arith) ∙ zeros j h));
     grounds = λ j h k. absurd (omega arith);
   }
 
