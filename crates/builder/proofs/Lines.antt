@@ -16,7 +16,7 @@ use Rattle.semantics.specs.Fact.{fact}
 use Rattle.semantics.specs.Certificate.{factAt, positionsAt, ruleAt, LineHolds}
 use Rattle.semantics.specs.Contract.{padded}
 use Rattle.words.proofs.Digits.{digits-padded}
-use Rattle.search.proofs.SemiNaive.{called-length}
+use Rattle.semantics.proofs.Taking.{called-length}
 use Rattle.table.specs.Layered.{codeAt, roundAt}
 use Rattle.builder.specs.Space.{markAt, positionsIn, namesIn, calledIn, calledAt, Earlier, Grounded, Planned, count, lineOf, renamed}
 use Rattle.builder.specs.Plan.{Certifies}

@@ -1,17 +1,11 @@
--- How a test's answer is given: by the fact itself, by its absence, or by a comparison of two numbers.
-use mathlib.Core.Bool.{Bool, true, false, not, false≢true}
-use mathlib.Core.Path.{_≡_, sym}
+-- A test's answer: by a comparison of two numbers, and the same to an equivalent question.
+use mathlib.Core.Bool.{Bool, not}
+use mathlib.Core.Path.{_≡_}
 use mathlib.Core.Logic.{_≢_}
 use Prim.Native.Nat.{ℕ}
 use lib.Dec.{eqb}
 use borrow.Author.Tests.{eqb-true, eqb-false, not-true, not-false}
 use Rattle.words.specs.Subheap.{Told}
-
-pub told-true : {P : Type 0} → P → Told true P
-told-true p = record { so = λ _. p; not-so = λ e. absurd (false≢true (sym e)) }
-
-pub told-false : {P : Type 0} → ¬ P → Told false P
-told-false n = record { so = λ e. absurd (false≢true e); not-so = λ _. n }
 
 pub told-equal : {P : Type 0} (a b : ℕ) → (a ≡ b → P) → (P → a ≡ b) → Told (eqb a b) P
 told-equal a b f g = record { so = λ e. f (eqb-true a b e); not-so = λ e p. eqb-false a b e (g p) }

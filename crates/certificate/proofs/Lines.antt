@@ -2,7 +2,7 @@
 -- values of the domain, and its digits decide rule, values and called lines.
 use mathlib.Core.Bool.{Bool}
 use mathlib.Core.Path.{_≡_, refl, sym, ap, ap₂, _∙_}
-use mathlib.Core.List.{List, [], _∷_, _++_, map, map-append, List·Memᴰ·head, List·Memᴰ·cases-cons, List·Memᴰ·not-nil, List·Memᴰ·append-cases, Memᴰ·of-map}
+use mathlib.Core.List.{List, [], _∷_, _++_, map, map-append, List·Memᴰ·head, List·Memᴰ·append-cases, Memᴰ·of-map}
 use mathlib.Core.Logic.{⊎-elim}
 use Prim.Native.Nat.{ℕ, zero, suc, _+_, _*_, _/_, _%_, _^_, _≤_, _<_}
 use native.Mathlib.Omega.{arith}
@@ -14,9 +14,10 @@ use Rattle.semantics.specs.Fact.{position, code, fact, partOf, valuesAt}
 use Rattle.semantics.specs.Heap.{Heap, Joins}
 use Rattle.semantics.specs.Lists.{_∈_, digits, digitsOf}
 use Rattle.semantics.specs.Rounds.{Called}
-use Rattle.semantics.specs.RuleSet.{PointsTo, Rule, arity, variables, ruleOf, WellFormedRule}
-use Rattle.semantics.specs.Tree.{Applies, Takes}
+use Rattle.semantics.specs.RuleSet.{Rule, arity, variables, ruleOf, WellFormedRule}
+use Rattle.semantics.specs.Tree.{Applies}
 use Rattle.semantics.proofs.Coding.{getD-in, position-below, positions-back, values-at-domain, code-part}
+use Rattle.semantics.proofs.Parts.{takes-below}
 use Rattle.semantics.proofs.Digits.{digitsOf-length, digits-back}
 use Rattle.semantics.proofs.DomainFacts.{setting-of, domain-ascending, domain-length}
 use Rattle.words.specs.Block.{ruleIn, ruleSetIn, pureIn}
@@ -171,7 +172,7 @@ module _ (rules records : List ℕ) (n : ℕ) (heap : Heap) (values : List ℕ) 
 
   -- ---- and a line that holds by the definition holds on the blocks
 
-  -- a joined part is small: its records are at most 16, and so are the bits of a called fact's part
+  -- a joined subheap is small: its records are at most 16, and so are the bits of a called fact's subheap
   part-small : (indices called : List ℕ) (part : ℕ) → ((i : ℕ) → i ∈ indices → i < length heap) → Joins (map (λ (i : ℕ). 2 ^ i) indices ++ map partOf called) part → part < 65536
   part-small indices called part below j = joins-small j (λ p m. ⊎-elim (bit p) (rest p) (List·Memᴰ·append-cases (map (λ (i : ℕ). 2 ^ i) indices) m))
     where
@@ -183,10 +184,6 @@ module _ (rules records : List ℕ) (n : ℕ) (heap : Heap) (values : List ℕ) 
 
       rest : (p : ℕ) → p ∈ map partOf called → p < 65536
       rest p m = let (f, h, e) = Memᴰ·of-map partOf called m in omega arith
-
-  takes-below : {σ : List ℕ} {atoms : List PointsTo} {indices : List ℕ} → Takes heap σ atoms indices → (i : ℕ) → i ∈ indices → i < length heap
-  takes-below Takes.none i m = absurd (List·Memᴰ·not-nil m)
-  takes-below (Takes.atom {i = j} l e t) i m = ⊎-elim (λ (q : i ≡ j). rw q l) (takes-below t i) (List·Memᴰ·cases-cons m)
 
   module _ (words : List ℕ) (k at : ℕ) (formed : WellFormedRule (ruleSetIn rules) (ruleIn rules at)) (arguments bound indices lines : List ℕ) (part : ℕ) where
     gives-in : Applies (ruleSetIn rules) heap (ruleIn rules at) arguments bound indices → ((v : ℕ) → v ∈ arguments ++ bound → v ∈ domainIn rules heap values)

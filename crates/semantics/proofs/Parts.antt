@@ -14,7 +14,7 @@ use Rattle.semantics.specs.Tree.{Takes, Tree, Forest}
 use Rattle.semantics.proofs.Bits.{apart-and, and-apart, distinct-apart, distinct-left, distinct-right, distinct-append, setOf-append, setOf-below}
 
 -- every record taken is one of the heap
-takes-below : {heap : Heap} {σ : List ℕ} {atoms : List PointsTo} {indices : List ℕ} → Takes heap σ atoms indices
+pub takes-below : {heap : Heap} {σ : List ℕ} {atoms : List PointsTo} {indices : List ℕ} → Takes heap σ atoms indices
     → (i : ℕ) → i ∈ indices → i < length heap
 takes-below Takes.none i m = absurd (List·Memᴰ·not-nil m)
 takes-below {heap} (Takes.atom {i = k} h e rest) i m =

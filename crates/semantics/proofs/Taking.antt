@@ -17,7 +17,7 @@ use Rattle.semantics.specs.Fact.{position, fact, partOf}
 use Rattle.semantics.specs.Rounds.{Called, Ground}
 use Rattle.semantics.specs.Certificate.{factAt, positionsAt, ruleAt, LineHolds, Certificate}
 use Rattle.semantics.proofs.Digits.{digitsOf-length, digits-back}
-use Rattle.semantics.proofs.Coding.{getD-in, position-below, position-at, values-back}
+use Rattle.semantics.proofs.Coding.{getD-in, position-below, values-back, positions-back}
 use Rattle.semantics.proofs.DomainFacts.{member-true, member-out}
 use Rattle.semantics.proofs.Evaluator.{meetsAll, takings, joined}
 use Rattle.semantics.proofs.Evaluation.{every-in, every-out, both-in, both-out, flat-in, flat-out, meetsAll-in, meetsAll-out, takings-in, takings-out, joined-in, joined-out}
@@ -106,11 +106,6 @@ module _ (ruleSet : RuleSet) (heap : Heap) (domain words : List ℕ) where
 
   -- a passed line is a ground instance of its rule
   module _ (asc : Ascending domain) where
-    positions-back : (positions : List ℕ) → ((p : ℕ) → p ∈ positions → p < length domain) → map (position domain) (map (λ (i : ℕ). getD domain i 0) positions) ≡ positions
-    positions-back [] h = refl
-    positions-back (p ∷ ps) h =
-        ap₂ (λ (x : ℕ) (xs : List ℕ). x ∷ xs) (position-at domain asc p (h p (List·Memᴰ·head refl))) (positions-back ps (λ q m. h q (List·Memᴰ·tail m)))
-
     line-of : (k number : ℕ) (positions arguments bound lines : List ℕ)
         → arguments ++ bound ≡ map (λ (i : ℕ). getD domain i 0) positions
         → length arguments ≡ arity ruleSet (getD (ruleSet .rules) number blankRule .head) → length bound ≡ getD (ruleSet .rules) number blankRule .bound
@@ -145,7 +140,7 @@ module _ (ruleSet : RuleSet) (heap : Heap) (domain words : List ℕ) where
             number = number;
             in-rule-set = p .in-rule-set;
             is-rule = refl;
-            positions = p .in-word ∙ ap (digits 256) (sym (ap (map (position domain)) e ∙ positions-back positions (p .domain-positions)));
+            positions = p .in-word ∙ ap (digits 256) (sym (ap (map (position domain)) e ∙ positions-back domain asc positions (p .domain-positions)));
             names = p .names;
           };
         }

@@ -55,7 +55,7 @@ pure n = do
   r ← term n
   give (record { kind = k; left = l; right = r })
 
--- The address must be a variable; 255, which is nil, is refusal 3.
+-- Only a variable may stand for the address: 255, which is nil, is refusal 3 there.
 abbrev pub atom : ℕ → Reader PointsTo
 atom n = do
   a ← named n

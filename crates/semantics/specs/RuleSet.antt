@@ -30,7 +30,7 @@ pub record Call : Type 0 where
   pub predicate : ℕ
   pub arguments : List Term
 
--- A rule for the predicate `head`. Its variables are the head's arguments first, and then `bound` more.
+-- A rule for the predicate `head`. Its variables are counted through: those of the head, and after them `bound` more.
 pub record Rule : Type 0 where
   pub head : ℕ
   pub bound : ℕ

@@ -76,7 +76,7 @@ pub record ByHand (ruleSet : RuleSet) (heap : Heap) (predicate : ℕ) (arguments
 abbrev pub UsesAll : Heap → List ℕ → Type 0
 UsesAll heap taken = (i : ℕ) → i < length heap → i ∈ taken
 
--- The query's answer by hand: a finished tree that uses each record exactly once.
+-- The query's answer by hand: a finished tree that takes all records, none of them twice.
 pub record Fits (ruleSet : RuleSet) (heap : Heap) (predicate : ℕ) (arguments : List ℕ) : Type 0 where
   pub taken : List ℕ
   pub tree : Tree ruleSet heap predicate arguments taken

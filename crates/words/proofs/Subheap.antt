@@ -1,6 +1,6 @@
 -- Shared bits by halves, and by the conjunction of the two words: two subheaps share a record exactly if their conjunction is not 0.
 use Prim.Native.Nat.{ℕ, zero, suc, _/_, _%_, _^_, _≤_}
-use mathlib.Core.Bool.{Bool, true, false}
+use mathlib.Core.Bool.{Bool, true, false, false≢true}
 use mathlib.Core.Path.{_≡_, sym, ap, _∙_}
 use native.Mathlib.Omega.{arith}
 use native.Mathlib.Decide.{ℕ-discrete}
@@ -71,7 +71,15 @@ apart-and a b n = step (ℕ-discrete (bitAnd a b) 0)
     step (yes e) = e
     step (no z) = absurd (n (and-shared a b z))
 
--- ---- what the test's answer says of the conjunction
+-- ---- a test's answer
+
+pub told-true : {P : Type 0} → P → Told true P
+told-true p = record { so = λ _. p; not-so = λ e. absurd (false≢true (sym e)) }
+
+pub told-false : {P : Type 0} → ¬ P → Told false P
+told-false n = record { so = λ e. absurd (false≢true e); not-so = λ _. n }
+
+-- what it says of the conjunction
 
 pub told-apart : {r : Bool} {a b : ℕ} → Told r (Shares a b) → r ≡ false → bitAnd a b ≡ 0
 told-apart {r} {a} {b} t e = apart-and a b (t .not-so e)

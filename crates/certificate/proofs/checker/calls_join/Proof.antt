@@ -8,9 +8,9 @@ use lib.ListN.{getD}
 use Rattle.semantics.specs.Certificate.{factAt, positionsAt}
 use Rattle.semantics.specs.Fact.{partOf}
 use Rattle.words.specs.Block.{callIn}
-use Rattle.words.proofs.Subheap.{told-apart, told-shared}
+use Rattle.words.proofs.Subheap.{told-false, told-apart, told-shared}
 use Rattle.certificate.specs.Line.{givenBy, CallsLine, CallsOf}
-use Rattle.certificate.proofs.Answers.{told-false, told-equal}
+use Rattle.certificate.proofs.Answers.{told-equal}
 use Rattle.certificate.proofs.Joining.{sum-small}
 use Rattle.certificate.proofs.Passing.{call-at, CallsFrom, calls-first, calls-more, calls-end, calls-ended}
 use Rattle.certificate.proofs.checker.calls_join.Statement.{statement}

@@ -2,8 +2,8 @@
 use borrow.Author.Needs.{needs}
 use native.Mathlib.Omega.{arith}
 use Rattle.words.specs.Block.{callIn}
+use Rattle.words.proofs.Subheap.{told-false}
 use Rattle.certificate.specs.Line.{givenBy}
-use Rattle.certificate.proofs.Answers.{told-false}
 use Rattle.certificate.proofs.Passing.{line-told}
 use Rattle.certificate.proofs.checker.calls_line.Statement.{statement}
 use Rattle.certificate.proofs.checker.calls_line.Tie as tie

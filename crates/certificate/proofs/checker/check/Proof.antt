@@ -5,8 +5,8 @@ use mathlib.Core.Path.{sym, _∙_}
 use Prim.Native.Nat.{ℕ, _+_, _-_, _≤_, _<_}
 use native.Mathlib.Omega.{arith}
 use borrow.Author.Count.{below-more}
+use Rattle.words.proofs.Subheap.{told-true, told-false}
 use Rattle.certificate.specs.Line.{LineIn}
-use Rattle.certificate.proofs.Answers.{told-true, told-false}
 use Rattle.certificate.proofs.Lines.{checked}
 use Rattle.certificate.proofs.checker.check.Statement.{statement}
 use Rattle.certificate.proofs.checker.check.Tie as tie

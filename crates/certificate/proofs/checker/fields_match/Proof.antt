@@ -7,8 +7,8 @@ use borrow.Author.Count.{below-none, below-more}
 use lib.ListN.{getD}
 use Rattle.semantics.specs.Tree.{valueOf}
 use Rattle.words.specs.Block.{termIn}
+use Rattle.words.proofs.Subheap.{told-true, told-false}
 use Rattle.certificate.specs.Line.{givenBy}
-use Rattle.certificate.proofs.Answers.{told-true, told-false}
 use Rattle.certificate.proofs.Reading.{fields-so, fields-at}
 use Rattle.certificate.proofs.checker.fields_match.Statement.{statement}
 use Rattle.certificate.proofs.checker.fields_match.Tie as tie

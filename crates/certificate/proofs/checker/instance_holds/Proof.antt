@@ -2,7 +2,8 @@
 use borrow.Author.Needs.{needs}
 use lib.ListN.{getD}
 use Rattle.search.specs.InBlock.{headArity}
-use Rattle.certificate.proofs.Answers.{told-false, told-as}
+use Rattle.words.proofs.Subheap.{told-false}
+use Rattle.certificate.proofs.Answers.{told-as}
 use Rattle.certificate.proofs.Passing.{head-so, head-back}
 use Rattle.certificate.proofs.checker.instance_holds.Statement.{statement}
 use Rattle.certificate.proofs.checker.instance_holds.Tie as tie

@@ -7,9 +7,9 @@ use lib.ListN.{getD}
 use Rattle.semantics.specs.Certificate.{positionsAt}
 use Rattle.semantics.specs.Tree.{asked}
 use Rattle.words.specs.Block.{atomIn}
-use Rattle.words.proofs.Subheap.{told-apart, told-shared}
+use Rattle.words.proofs.Subheap.{told-false, told-apart, told-shared}
 use Rattle.certificate.specs.Line.{givenBy, FirstRecord, FoundRecord, CallsOf, JoinOf}
-use Rattle.certificate.proofs.Answers.{told-false, told-as}
+use Rattle.certificate.proofs.Answers.{told-as}
 use Rattle.certificate.proofs.Joining.{sum-small}
 use Rattle.certificate.proofs.Passing.{atom-count, found-first, found-none, AtomsFrom, atoms-some, atoms-first, atoms-more, atoms-end, atoms-ended}
 use Rattle.certificate.proofs.checker.joined.Statement.{statement}

@@ -5,7 +5,8 @@ use Prim.Native.Nat.{ℕ, _%_, _<_}
 use native.Mathlib.Omega.{arith}
 use lib.ListN.{getD}
 use Rattle.semantics.specs.Certificate.{ruleAt}
-use Rattle.certificate.proofs.Answers.{told-false, told-as}
+use Rattle.words.proofs.Subheap.{told-false}
+use Rattle.certificate.proofs.Answers.{told-as}
 use Rattle.certificate.proofs.checker.line_holds.Statement.{statement}
 use Rattle.certificate.proofs.checker.line_holds.Tie as tie
 

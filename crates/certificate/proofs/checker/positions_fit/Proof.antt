@@ -1,8 +1,9 @@
 -- `positions_fit` passes the positions of a word one by one. The invariant: the whole word fits exactly if what is left of it does.
 use borrow.Author.Needs.{needs}
 use native.Mathlib.Omega.{arith}
+use Rattle.words.proofs.Subheap.{told-false}
 use Rattle.certificate.specs.Line.{Positions}
-use Rattle.certificate.proofs.Answers.{told-false, told-equal}
+use Rattle.certificate.proofs.Answers.{told-equal}
 use Rattle.certificate.proofs.Positions.{positions-first, positions-rest, positions-more, positions-end, positions-none}
 use Rattle.certificate.proofs.checker.positions_fit.Statement.{statement}
 use Rattle.certificate.proofs.checker.positions_fit.Tie as tie

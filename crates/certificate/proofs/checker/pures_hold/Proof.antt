@@ -5,8 +5,8 @@ use native.Mathlib.Omega.{arith}
 use borrow.Author.Count.{below-none, below-more}
 use Rattle.semantics.specs.Tree.{Meets}
 use Rattle.words.specs.Block.{pureIn}
+use Rattle.words.proofs.Subheap.{told-true, told-false}
 use Rattle.certificate.specs.Line.{givenBy}
-use Rattle.certificate.proofs.Answers.{told-true, told-false}
 use Rattle.certificate.proofs.checker.pures_hold.Statement.{statement}
 use Rattle.certificate.proofs.checker.pures_hold.Tie as tie
 

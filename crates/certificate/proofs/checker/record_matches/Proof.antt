@@ -1,7 +1,7 @@
 -- `record_matches` compares address, number of fields and fields.
 use borrow.Author.Needs.{needs}
 use mathlib.Core.Path.{_∙_, sym}
-use Rattle.certificate.proofs.Answers.{told-false}
+use Rattle.words.proofs.Subheap.{told-false}
 use Rattle.certificate.proofs.Reading.{record-address, record-count, record-told}
 use Rattle.certificate.proofs.checker.record_matches.Statement.{statement}
 use Rattle.certificate.proofs.checker.record_matches.Tie as tie
