@@ -5,6 +5,7 @@ use words::part_of;
 use words::rule_of;
 use words::shares;
 use words::variable_of;
+use words::wide;
 ghost use mathlib.Core.Path.{_≡_};
 ghost use mathlib.Core.Bool.{Bool};
 ghost use Prim.Native.Nat.{_+_, _*_, _^_, _≤_, _<_};
@@ -18,7 +19,6 @@ ghost use Rattle.words.specs.Subheap.{Told};
 ghost use Rattle.search.specs.InBlock.{headArity};
 ghost use Rattle.search.specs.Ready.{Ready};
 ghost use Rattle.certificate.specs.Line.{givenBy, Positions, RuleAt, CallAt, PuresHold, FoundRecord, CallsLine, CallsOf, JoinOf, InstanceIn, LineIn, Checked};
-use search::wide;
 
 // The number of arguments of the predicate that the byte at a place names.
 fn arity(rules: &[u8; 1168], at: usize) -> usize
