@@ -1,5 +1,5 @@
 -- The table after the rounds: its facts come round by round, each from those of earlier rounds, as the builder of certificates asks.
-use mathlib.Core.Path.{_≡_, sym, _∙_}
+use mathlib.Core.Path.{sym, _∙_}
 use mathlib.Core.Logic.{_≢_}
 use mathlib.Core.List.{List}
 use Prim.Native.Nat.{ℕ, _<_}
