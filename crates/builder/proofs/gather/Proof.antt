@@ -53,17 +53,20 @@ mul-names-2 c = search needs
 slice-read-names : tie.Need-slice-read-names Inv-loop μ-loop
 slice-read-names c = search needs
 
-mul-put : tie.Need-mul-put Inv-loop μ-loop
-mul-put c = search needs
+mul-code-of : tie.Need-mul-code-of Inv-loop μ-loop
+mul-code-of c = search needs
 
-shared-slice-read-put : tie.Need-shared-slice-read-put Inv-loop μ-loop
-shared-slice-read-put c = search needs
+shared-slice-read-code-of : tie.Need-shared-slice-read-code-of Inv-loop μ-loop
+shared-slice-read-code-of c = search needs
+
+code-of-requires : tie.Need-code-of-requires Inv-loop μ-loop
+code-of-requires c κs = search needs
 
 put-requires : tie.Need-put-requires Inv-loop μ-loop
 put-requires c κs =
-    let s = c .before .before .before .before .before .before .before .before .before .before in
-    let l = c .before .before .before .before .before .before .before .loop in
-    let taken = c .before .before .before .before .if1 .taken in
+    let s = c .before .before .before .before .before .before .before .before .before .before .before in
+    let l = c .before .before .before .before .before .before .before .before .loop in
+    let taken = c .before .before .before .before .before .if1 .taken in
     (omega (arith, taken), line-low (s .args .table .now) (s .args .at) (s .args .space .now) (s .pre .1) (l .i) (l .space) (omega arith) (l .inv) (omega (arith, taken)) .1)
 
 add-i : tie.Need-add-i Inv-loop μ-loop
@@ -77,8 +80,8 @@ loop-again c =
     let s = c .before .before .before .before .before .before in
     let l = c .before .before .before .loop in
     ⊎-elim
-    (λ w. rw (w .8)
-    (gathered-more (s .args .table .now) (s .args .at) (s .args .space .now) (s .pre .1) (l .i) (l .space) (omega arith) (l .inv) (omega (arith, w .0 .taken)) (w .5 .last .0) (w .5 .ensures)))
+    (λ w. rw (w .9)
+    (gathered-more (s .args .table .now) (s .args .at) (s .args .space .now) (s .pre .1) (l .i) (l .space) (omega arith) (l .inv) (omega (arith, w .0 .taken)) (w .6 .last .0) (rw (← w .5 .ensures) (w .6 .ensures))))
     (λ w. rw (w .1) (gathered-free (s .args .table .now) (s .args .at) (s .args .space .now) (s .pre .1) (l .i) (l .space) (omega arith) (l .inv) (omega (arith, w .0 .left))))
     (c .if1 .came)
 
@@ -109,8 +112,9 @@ gather-spec =
     add-names
     mul-names-2
     slice-read-names
-    mul-put
-    shared-slice-read-put
+    mul-code-of
+    shared-slice-read-code-of
+    code-of-requires
     put-requires
     add-i
     loop-less

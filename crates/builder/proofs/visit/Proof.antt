@@ -20,11 +20,14 @@ use Rattle.builder.proofs.mark.Reads as mark-reads
 earlier-requires : tie.Need-earlier-requires
 earlier-requires c κs = search needs
 
-mul-ground : tie.Need-mul-ground
-mul-ground c = search needs
+mul-code-of : tie.Need-mul-code-of
+mul-code-of c = search needs
 
-shared-slice-read-ground : tie.Need-shared-slice-read-ground
-shared-slice-read-ground c = search needs
+shared-slice-read-code-of : tie.Need-shared-slice-read-code-of
+shared-slice-read-code-of c = search needs
+
+code-of-requires : tie.Need-code-of-requires
+code-of-requires c κs = search needs
 
 ground-requires : tie.Need-ground-requires
 ground-requires c κs = search needs
@@ -55,38 +58,38 @@ slice-write-space-2 c = simp length-set (omega arith)
 
 mark-requires : tie.Need-mark-requires
 mark-requires c κs =
-    let a = c .before .before .before .before .before .before .args in
+    let a = c .before .before .before .before .before .before .before .args in
     let g = c .before .ground in
-    (omega arith, omega (arith, g .ensures .within 0 (omega arith), c .before .before .before .earlier .ensures .upto, c .before .before .before .before .before .before .pre .place, c .before .before .before .before .before .before .pre .three, written-long (a .space .now) (a .i) (g .result .positions) (g .result .names)))
+    (omega arith, omega (arith, g .ensures .within 0 (omega arith), c .before .before .before .before .earlier .ensures .upto, c .before .before .before .before .before .before .before .pre .place, c .before .before .before .before .before .before .before .pre .three, written-long (a .space .now) (a .i) (g .result .positions) (g .result .names)))
 
 mark-requires-2 : tie.Need-mark-requires-2
 mark-requires-2 c κs =
-    let a = c .before .before .before .before .before .before .before .before .before .before .args in
+    let a = c .before .before .before .before .before .before .before .before .before .before .before .args in
     let g = c .before .before .before .before .before .ground in
-    (omega arith, omega (arith, g .ensures .within 1 (omega arith), c .before .before .before .before .before .before .before .earlier .ensures .upto, c .before .before .before .before .before .before .before .before .before .before .pre .place, c .before .before .before .before .before .before .before .before .before .before .pre .three, written-long (a .space .now) (a .i) (g .result .positions) (g .result .names), c .before .before .before .mark .kept .0))
+    (omega arith, omega (arith, g .ensures .within 1 (omega arith), c .before .before .before .before .before .before .before .before .earlier .ensures .upto, c .before .before .before .before .before .before .before .before .before .before .before .pre .place, c .before .before .before .before .before .before .before .before .before .before .before .pre .three, written-long (a .space .now) (a .i) (g .result .positions) (g .result .names), c .before .before .before .mark .kept .0))
 
 mark-requires-3 : tie.Need-mark-requires-3
 mark-requires-3 c κs =
-    let a = c .before .before .before .before .before .before .before .before .before .before .before .before .before .before .args in
+    let a = c .before .before .before .before .before .before .before .before .before .before .before .before .before .before .before .args in
     let g = c .before .before .before .before .before .before .before .before .before .ground in
-    (omega arith, omega (arith, g .ensures .within 2 (omega arith), c .before .before .before .before .before .before .before .before .before .before .before .earlier .ensures .upto, c .before .before .before .before .before .before .before .before .before .before .before .before .before .before .pre .place, c .before .before .before .before .before .before .before .before .before .before .before .before .before .before .pre .three, written-long (a .space .now) (a .i) (g .result .positions) (g .result .names), c .before .before .before .before .before .before .before .mark .kept .0, c .before .before .before .mark2 .kept .0))
+    (omega arith, omega (arith, g .ensures .within 2 (omega arith), c .before .before .before .before .before .before .before .before .before .before .before .before .earlier .ensures .upto, c .before .before .before .before .before .before .before .before .before .before .before .before .before .before .before .pre .place, c .before .before .before .before .before .before .before .before .before .before .before .before .before .before .before .pre .three, written-long (a .space .now) (a .i) (g .result .positions) (g .result .names), c .before .before .before .before .before .before .before .mark .kept .0, c .before .before .before .mark2 .kept .0))
 
 same-length : tie.Need-same-length
 same-length c =
-    let a = c .before .before .before .before .before .before .before .before .before .before .before .before .before .before .before .before .before .args in
+    let a = c .before .before .before .before .before .before .before .before .before .before .before .before .before .before .before .before .before .before .args in
     let g = c .before .before .before .before .before .before .before .before .before .before .before .before .ground in
     c .before .before .mark3 .kept .0 ∙ c .before .before .before .before .before .before .mark2 .kept .0 ∙ c .before .before .before .before .before .before .before .before .before .before .mark .kept .0 ∙ written-long (a .space .now) (a .i) (g .result .positions) (g .result .names)
 
 returns : tie.Need-returns
 returns c =
-    let a = c .before .before .before .before .before .before .before .before .before .before .before .before .before .before .before .before .before .args in
+    let a = c .before .before .before .before .before .before .before .before .before .before .before .before .before .before .before .before .before .before .args in
     let g = c .before .before .before .before .before .before .before .before .before .before .before .before .ground in
     record {
       positions = g .result .positions;
       names = g .result .names;
-      within = λ k l. omega (arith, g .ensures .within k l, c .before .before .before .before .before .before .before .before .before .before .before .before .before .before .earlier .ensures .upto);
+      within = λ k l. omega (arith, g .ensures .within k l, c .before .before .before .before .before .before .before .before .before .before .before .before .before .before .before .earlier .ensures .upto);
       is-space = three-marks (set (set (a .space .now) (3 * a .i + 1) (g .result .positions)) (3 * a .i + 2) (g .result .names)) (calledAt (g .result .names) 0) (calledAt (g .result .names) 1) (calledAt (g .result .names) 2) (c .before .before .before .before .before .before .before .before .before .before .mark .ensures) (c .before .before .before .before .before .before .mark2 .ensures) (c .before .before .mark3 .ensures);
-      grounds = supplied-grounded (c .before .before .before .before .before .before .before .before .before .before .before .before .before .before .earlier .ensures) (g .ensures);
+      grounds = supplied-grounded (c .before .before .before .before .before .before .before .before .before .before .before .before .before .before .before .earlier .ensures) (rw (c .before .before .before .before .before .before .before .before .before .before .before .before .before .code-of .ensures) at (g .ensures));
     }
 
 pub visit-spec : {M : Type 1} → statement M
@@ -94,8 +97,9 @@ visit-spec =
     tie.close
     (tie.spec
     earlier-requires
-    mul-ground
-    shared-slice-read-ground
+    mul-code-of
+    shared-slice-read-code-of
+    code-of-requires
     ground-requires
     mul-space
     add-space
