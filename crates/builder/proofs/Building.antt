@@ -14,7 +14,7 @@ use Rattle.semantics.specs.Lists.{zeros}
 use Rattle.words.specs.Block.{ruleSetIn}
 use Rattle.table.specs.Layered.{Layered}
 use Rattle.search.specs.InBlock.{domainIn, Represents}
-use Rattle.search.proofs.Passing.{zeros-at}
+use Rattle.semantics.proofs.Coding.{zeros-at}
 use Rattle.builder.specs.Space.{markAt, count}
 use Rattle.builder.specs.Steps.{Numberable, Named, Lined, Gathered}
 use Rattle.builder.specs.Plan.{Lent, Plans, Builds}

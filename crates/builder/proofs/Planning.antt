@@ -52,12 +52,6 @@ data After (space : List ℕ) (names : ℕ) (after : List ℕ) (j : ℕ) : Type 
   called : (k : ℕ) → k < 3 → calledAt names k ≡ suc j → markAt after j ≡ 1 → After space names after j
 
 module _ (space : List ℕ) (i positions names : ℕ) (inside : 3 * i + 3 ≤ length space) (within : (k : ℕ) → k < 3 → calledAt names k ≤ i) where
-  visiting-long : length (visiting space i positions names) ≡ length space
-  visiting-long =
-      marking-long (marking (marking (set (set space (3 * i + 1) positions) (3 * i + 2) names) (calledAt names 0)) (calledAt names 1)) (calledAt names 2)
-      ∙ marking-long (marking (set (set space (3 * i + 1) positions) (3 * i + 2) names) (calledAt names 0)) (calledAt names 1)
-      ∙ marking-long (set (set space (3 * i + 1) positions) (3 * i + 2) names) (calledAt names 0) ∙ written-long space i positions names
-
   marked-positions : (j : ℕ) → positionsIn (visiting space i positions names) j ≡ positionsIn (set (set space (3 * i + 1) positions) (3 * i + 2) names) j
   marked-positions j =
       marking-positions (marking (marking (set (set space (3 * i + 1) positions) (3 * i + 2) names) (calledAt names 0)) (calledAt names 1)) (calledAt names 2) j

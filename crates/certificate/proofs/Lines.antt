@@ -2,7 +2,7 @@
 -- values of the domain, and its digits decide rule, values and called lines.
 use mathlib.Core.Bool.{Bool}
 use mathlib.Core.Path.{_≡_, refl, sym, ap, ap₂, _∙_}
-use mathlib.Core.List.{List, [], _∷_, _++_, map, map-append, List·Memᴰ·head, List·Memᴰ·append-cases, Memᴰ·of-map}
+use mathlib.Core.List.{List, _∷_, _++_, map, map-append, List·Memᴰ·head, List·Memᴰ·append-cases, Memᴰ·of-map}
 use mathlib.Core.Logic.{⊎-elim}
 use Prim.Native.Nat.{ℕ, zero, suc, _+_, _*_, _/_, _%_, _^_, _≤_, _<_}
 use native.Mathlib.Omega.{arith}
@@ -28,17 +28,13 @@ use Rattle.search.specs.Ready.{variablesIn}
 use Rattle.search.proofs.ReadyBlocks.{head-arity-is, variables-are, rule-formed}
 use Rattle.search.proofs.RuleInBlock.{rules-are, rule-listed, rule-numbered}
 use Rattle.search.proofs.Represents.{nil-position}
+use Rattle.search.proofs.FoundFacts.{getD-map}
 use Rattle.certificate.specs.Line.{givenBy, Positions, CallsOf, InstanceIn, LineIn, LinesIn, Checked}
 use Rattle.certificate.proofs.Answers.{told-as}
 use Rattle.certificate.proofs.Positions.{positions-word, positions-below, positions-pass, same-digit}
 use Rattle.certificate.proofs.Joining.{onto-joins, joins-onto, joins-small}
 use Rattle.certificate.proofs.Values.{Placed, meets-values, meets-positions}
 use Rattle.certificate.proofs.Joined.{CallsOut, AtomsOut, calls-out, calls-in, atoms-out, atoms-in}
-
-getD-map : (f : ℕ → ℕ) (xs : List ℕ) (i : ℕ) → i < length xs → getD (map f xs) i 0 ≡ f (getD xs i 0)
-getD-map f [] i h = absurd (omega arith)
-getD-map f (x ∷ xs) zero h = refl
-getD-map f (x ∷ xs) (suc i) h = getD-map f xs i (omega arith)
 
 take-digits : (base a m word : ℕ) → a ≤ m → take a (digitsOf base m word) ≡ digitsOf base a word
 unfolding digitsOf

@@ -12,17 +12,18 @@ use Rattle.semantics.specs.Heap.{Heap}
 use Rattle.semantics.proofs.FixedPoint.{follows-more}
 use Rattle.table.specs.Table.{factsIn, Tagged}
 use Rattle.table.specs.Layered.{codeAt, EarlierFact, Layered}
-use Rattle.table.proofs.Places.{place-of, rising, differ}
+use Rattle.table.proofs.Places.{place-of, differ}
 use Rattle.table.proofs.Passes.{facts-length}
 use Rattle.table.proofs.Rounds.{fact-at}
 use Rattle.fixpoint.specs.Fixpoint.{Rests}
+use Rattle.semantics.proofs.Coding.{ascending-at}
 
 module _ (ruleSet : RuleSet) (heap : Heap) (domain table : List ℕ) (old facts rounds : ℕ) (tagged : Tagged table old facts rounds)
     (ascending : Ascending (take facts table)) where
   word-below : (i j : ℕ) → i < j → j < facts → getD table i 0 < getD table j 0
   word-below i j h l =
       let long = length-take-le facts table (tagged .within) in
-      let r = rising (take facts table) ascending i j h (omega arith) in
+      let r = ascending-at (take facts table) ascending i j h (omega arith) in
       omega (arith, r, getD-take facts table i 0 (omega arith), getD-take facts table j 0 l)
 
   code-differs : (i j : ℕ) → i < j → j < facts → codeAt table i ≢ codeAt table j

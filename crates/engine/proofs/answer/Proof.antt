@@ -1,7 +1,6 @@
 -- `answer` meets its contract: the rounds fill the table, with the unfolding space lent for its index; then comes the verdict, or refusal
 -- 11.
 use mathlib.Core.Path.{_∙_}
-use native.Mathlib.Omega.{arith}
 use Rattle.engine.proofs.Answering.{lent-same, answered, over-answered}
 use Rattle.fixpoint.proofs.Settled.{ran-done, ran-over}
 use Rattle.search.proofs.ReadyBlocks.{ready-of}
