@@ -1,5 +1,5 @@
--- Planning downwards from the query's place: the places passed that are marked have their lines, what they call is marked and before them, and
--- every marked place but the query's is called by one that was passed.
+-- Planning downwards from the query's place: the places passed that are marked have their lines, what they call is marked and before
+-- them, and every marked place but the query's is called by one that was passed.
 use mathlib.Core.List.{List}
 use mathlib.Core.Logic.{_⊎_, inl, inr, ⊎-elim, _≢_}
 use mathlib.Core.Path.{_≡_, refl, sym, ap, _∙_}

@@ -11,6 +11,7 @@ ghost use Rattle.formats.specs.Cursor.{Yields};
 ghost use Rattle.formats.specs.HeapLayout.{valueLayout};
 ghost use Rattle.formats.specs.Layout.{Fills, many};
 
+// A byte as a number of a block.
 pub(crate) fn wide(b: u8) -> u32
     ensures { λ r. ⌜ (r ≡ b) × (r < 256) ⌝ }
 {

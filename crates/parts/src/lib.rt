@@ -1,8 +1,8 @@
 // The three parts of the bench program's input.
-ghost use mathlib.Core.Path.{_≡_};
 ghost use Prim.Native.Nat.{_<_, _≤_};
 ghost use lib.ListN.{length};
 ghost use Rattle.parts.specs.Parts.{PartAt, Splits};
+use words::wide;
 
 // The bytes of a part, from one place up to another.
 pub struct Part {
@@ -14,13 +14,6 @@ pub struct Parts {
     pub book: Part,
     pub snapshot: Part,
     pub question: Part,
-}
-
-// One byte of a length.
-fn wide(byte: u8) -> usize
-    ensures { λ r. ⌜ (r ≡ byte) × (r < 256) ⌝ }
-{
-    byte as usize
 }
 
 // The part whose length stands at a place. Where a byte of the length is missing nothing follows it, so the part is empty; where the length
