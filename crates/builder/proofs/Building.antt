@@ -17,7 +17,7 @@ use Rattle.search.specs.InBlock.{domainIn, Represents}
 use Rattle.semantics.proofs.Coding.{zeros-at}
 use Rattle.builder.specs.Space.{markAt, count}
 use Rattle.builder.specs.Steps.{Numberable, Named, Lined, Gathered}
-use Rattle.builder.specs.Plan.{Lent, Plans, Builds}
+use Rattle.builder.specs.Plan.{Buildable, Plans, Builds}
 use Rattle.builder.proofs.Counting.{count-below, count-apart}
 use Rattle.builder.proofs.Lines.{Described, certifies}
 
@@ -29,11 +29,11 @@ cleared-marks space after at e i l =
     ∙ zeros-at (3 * at - 0) (3 * i)
 
 -- what the plan and the numbers ask of it
-pub lent-cleared : {rules records : List ℕ} {n : ℕ} {table : List ℕ} {at : ℕ} {space after : List ℕ} → Lent rules records n table at space → length after ≡ length space
-    → Lent rules records n table at after
+pub lent-cleared : {rules records : List ℕ} {n : ℕ} {table : List ℕ} {at : ℕ} {space after : List ℕ} → Buildable rules records n table at space → length after ≡ length space
+    → Buildable rules records n table at after
 lent-cleared lent e = record { ready = lent .ready; place = lent .place; lines = lent .lines; three = e ∙ lent .three }
 
-pub plan-numberable : {rules records : List ℕ} {n : ℕ} {table : List ℕ} {at : ℕ} {space cleared planned : List ℕ} → Lent rules records n table at space → length cleared ≡ length space
+pub plan-numberable : {rules records : List ℕ} {n : ℕ} {table : List ℕ} {at : ℕ} {space cleared planned : List ℕ} → Buildable rules records n table at space → length cleared ≡ length space
     → Plans rules records n table at cleared planned → Numberable at planned
 plan-numberable lent e plans = record {
   planned = plans .planned;
@@ -63,7 +63,7 @@ module _ {at : ℕ} {before after : List ℕ} {lines : ℕ} (ready : Numberable 
   lines-inside = omega (arith, named .counted, count-below before (suc at), named .long, ready .inside)
 
 -- The whole.
-module _ {rules records : List ℕ} {n : ℕ} {table : List ℕ} {at : ℕ} {space cleared planned numbered gathered : List ℕ} {lines : ℕ} (lent : Lent rules records n table at space)
+module _ {rules records : List ℕ} {n : ℕ} {table : List ℕ} {at : ℕ} {space cleared planned numbered gathered : List ℕ} {lines : ℕ} (lent : Buildable rules records n table at space)
     (plans : Plans rules records n table at cleared planned) (ready : Numberable at planned) (named : Named at planned numbered lines) (gather : Gathered table at numbered gathered) where
   inside : 3 * lines ≤ length gathered
   inside = omega (arith, gather .long, lines-inside ready named)

@@ -19,7 +19,7 @@ use Rattle.builder.specs.Space.{markAt, positionsIn, namesIn, calledAt, 
 use Rattle.builder.specs.Steps.{marking}
 
 -- What is lent: blocks as the readers leave them, a place of a table of at most 65,535 lines, and three words of space for each line.
-pub record Lent (rules records : List ℕ) (n : ℕ) (table : List ℕ) (i : ℕ) (space : List ℕ) : Type 0 where
+pub record Buildable (rules records : List ℕ) (n : ℕ) (table : List ℕ) (i : ℕ) (space : List ℕ) : Type 0 where
   pub ready : Ready rules records n
   pub place : i < length table
   pub lines : length table ≤ 65535
