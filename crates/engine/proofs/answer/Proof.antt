@@ -1,5 +1,5 @@
--- `answer` meets its contract: the rounds fill the table, with the start of the unfolding space lent for its index; then comes the verdict, or refusal
--- 11.
+-- `answer` meets its contract: the rounds fill the table, with the start of the unfolding space lent for its index; then comes the verdict,
+-- or refusal 11.
 use mathlib.Core.Path.{_∙_}
 use Rattle.engine.proofs.Answering.{lent-same, answered, over-answered}
 use Rattle.fixpoint.proofs.Settled.{ran-done, ran-over}
