@@ -137,7 +137,8 @@ fn long_row(name: &str, input: &Input) -> io::Result<()> {
     let mut space = vec![0; 3 * MOST_LINES];
     let mut reply = Reply::default();
     let (mut start, mut proved, mut reference) = (Duration::MAX, Duration::MAX, Duration::MAX);
-    for _ in 0..LONG_RUNS {
+    let begun = Instant::now();
+    while begun.elapsed() < LONG_TIME {
         let (taken, _) = process(&program, &[])?;
         start = start.min(taken);
         let (taken, text) = process(&program, &bytes)?;
@@ -169,14 +170,18 @@ fn long_row(name: &str, input: &Input) -> io::Result<()> {
     Ok(())
 }
 
-const LONG_RUNS: usize = 60;
+/// Long enough for a few thousand processes: the start of one takes ten times
+/// as long as the smallest pool, so only the fastest of many can be compared.
+const LONG_TIME: Duration = Duration::from_secs(10);
+
+const CLEARINGS: usize = 1_000;
 
 /// The fastest clearing of all that is lent with the longest table: whatever a
 /// program does, it must leave zeros after the facts and the lines.
 fn clearing() -> Duration {
     let mut lent = vec![1u64; 4 * MOST_LINES];
     let mut fastest = Duration::MAX;
-    for _ in 0..LONG_RUNS {
+    for _ in 0..CLEARINGS {
         fastest = fastest.min(time(|| {
             std::hint::black_box(&mut lent).fill(0);
             lent[0]
