@@ -14,14 +14,16 @@ use Rattle.semantics.specs.Contract.{padded, FilledInput, refusalReply, Answers
 use Rattle.semantics.proofs.Coding.{getD-in}
 use Rattle.semantics.proofs.Verdict.{verdict}
 use Rattle.words.specs.Block.{ruleSetIn}
+use Rattle.table.specs.Steps.{PlaceOf}
 use Rattle.table.specs.Table.{codeOf, factsIn}
 use Rattle.table.proofs.Passes.{facts-length}
 use Rattle.table.proofs.Rounds.{fact-at}
 use Rattle.search.specs.InBlock.{Represents, domainIn}
 use Rattle.fixpoint.specs.Fixpoint.{Saturated, Overflows}
 use Rattle.builder.specs.Plan.{Builds}
-use Rattle.engine.specs.Evaluate.{PlaceOf, inputOf, Evaluated}
+use Rattle.engine.specs.Evaluate.{inputOf, Evaluated}
 use Rattle.engine.proofs.Layers.{layered}
+use Rattle.engine.proofs.Places.{no-place}
 
 module _ {rules records : List ℕ} {n facts rounds : ℕ} {table : List ℕ} (sat : Saturated rules records n table facts rounds) where
   inside : facts ≤ length table
@@ -39,7 +41,7 @@ module _ {rules records : List ℕ} {n facts rounds : ℕ} {table : List ℕ} (s
     iff = verdict (ruleSetIn rules) heap values (rep .valid) predicate counted (sat .completed heap values rep .after) (sat .completed heap values rep .complete)
 
     -- the query's fact has a place, and the builder wrote a certificate of it
-    fitting : {space space′ : List ℕ} {at lines : ℕ} → length space ≡ 3 * length table → PlaceOf table facts last at → at < facts → Builds rules records n table at space space′ lines
+    fitting : {space space′ : List ℕ} {at lines : ℕ} → length space ≡ 3 * length table → PlaceOf table 0 facts last at → at < facts → Builds rules records n table at space space′ lines
         → Answers (inputOf rules heap predicate values) (length table) (record { refusal = 0; verdict = 1; facts = facts; rounds = rounds; lines = lines })
         (padded (length table) (factsIn table facts)) space′
     fitting {space} {space′} {at} {lines} three place l built =
@@ -52,21 +54,21 @@ module _ {rules records : List ℕ} {n facts rounds : ℕ} {table : List ℕ} (s
         (c .is-space ∙ ap (λ (k : ℕ). padded k (c .words)) three)
 
     -- it has none
-    missing : {at : ℕ} → PlaceOf table facts last at → facts ≤ at
+    missing : {at : ℕ} → PlaceOf table 0 facts last at → facts ≤ at
         → Answers (inputOf rules heap predicate values) (length table) (record { refusal = 0; verdict = 0; facts = facts; rounds = rounds; lines = 0 })
         (padded (length table) (factsIn table facts)) (zeros (3 * length table))
     missing {at} place l =
-        Answers.fits-not rounds (factsIn table facts) filled (λ f. place .missing (omega (arith, place .within)) (rw is-last (iff .1 f)))
+        Answers.fits-not rounds (factsIn table facts) filled (λ f. no-place table facts last inside (λ i h. place .before i (omega arith) (omega arith)) (rw is-last (iff .1 f)))
         (ap (λ (k : ℕ). record { refusal = 0; verdict = 0; facts = k; rounds = rounds; lines = 0 }) (sym counted-facts)) refl
 
   -- the two ways out of the verdict
-  pub concluded-fits : {space space′ table′ : List ℕ} {last at lines : ℕ} → length space ≡ 3 * length table → PlaceOf table facts last at → at < facts → Builds rules records n table at space space′ lines
+  pub concluded-fits : {space space′ table′ : List ℕ} {last at lines : ℕ} → length space ≡ 3 * length table → PlaceOf table 0 facts last at → at < facts → Builds rules records n table at space space′ lines
       → table′ ≡ padded (length table) (factsIn table facts)
       → Evaluated rules records n last (length table) (record { refusal = 0; verdict = 1; facts = facts; rounds = rounds; lines = lines }) table′ space′
   concluded-fits three place l built e =
       record { answers = λ heap values predicate rep counted is-last. rw e (fitting _ heap values predicate rep counted is-last three place l built) }
 
-  pub concluded-not : {space′ table′ : List ℕ} {last at : ℕ} → PlaceOf table facts last at → facts ≤ at → table′ ≡ padded (length table) (factsIn table facts) → space′ ≡ zeros (3 * length table)
+  pub concluded-not : {space′ table′ : List ℕ} {last at : ℕ} → PlaceOf table 0 facts last at → facts ≤ at → table′ ≡ padded (length table) (factsIn table facts) → space′ ≡ zeros (3 * length table)
       → Evaluated rules records n last (length table) (record { refusal = 0; verdict = 0; facts = facts; rounds = rounds; lines = 0 }) table′ space′
   concluded-not place l e f =
       record { answers = λ heap values predicate rep counted is-last. rw (e, f) (missing _ heap values predicate rep counted is-last place l) }

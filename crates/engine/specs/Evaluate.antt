@@ -1,9 +1,8 @@
 -- What the engine's parts ask of each other and promise, over the blocks in positions.
 use mathlib.Core.List.{List}
 use mathlib.Core.Path.{_≡_}
-use Prim.Native.Nat.{ℕ, _≤_, _<_}
-use lib.ListN.{length, getD}
-use Rattle.semantics.specs.Lists.{_∈_}
+use Prim.Native.Nat.{ℕ}
+use lib.ListN.{length}
 use Rattle.semantics.specs.RuleSet.{arity}
 use Rattle.semantics.specs.Heap.{Heap, wholeOf}
 use Rattle.semantics.specs.Formats.{Input}
@@ -11,16 +10,9 @@ use Rattle.semantics.specs.Fact.{fact}
 use Rattle.semantics.specs.Contract.{Lent, Answers}
 use Rattle.semantics.specs.declared.Reply.{Reply}
 use Rattle.words.specs.Block.{ruleSetIn}
-use Rattle.table.specs.Table.{codeOf, factsIn}
 use Rattle.search.specs.InBlock.{Represents, domainIn}
 use Rattle.search.specs.Ready.{Ready}
 use Rattle.fixpoint.specs.Fixpoint.{Saturated}
-
--- The place of a fact among the first words of the table, or their number where it has none.
-pub record PlaceOf (table : List ℕ) (facts f place : ℕ) : Type 0 where
-  pub within : place ≤ facts
-  pub found : place < facts → codeOf (getD table place 0) ≡ f
-  pub missing : place ≡ facts → ¬ (f ∈ factsIn table facts)
 
 -- All facts are in the table, and the unfolding space has three words for each line.
 pub record Concludes (rules records : List ℕ) (n facts rounds : ℕ) (table space : List ℕ) : Type 0 where

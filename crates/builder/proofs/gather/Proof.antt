@@ -7,9 +7,6 @@ use Rattle.builder.proofs.Gathering.{GatheredTo, gathered-none, gathere
 use borrow.Author.Needs.{needs}
 use Rattle.builder.proofs.gather.Statement.{statement}
 use Rattle.builder.proofs.gather.Tie as tie
-use Rattle.builder.proofs.gather.Reads as reads
-use Rattle.builder.proofs.gather.Lts as lts
-use Rattle.builder.proofs.put.Reads as put-reads
 
 abbrev Inv-loop : tie.InvT-loop
 Inv-loop table at space₀ i₀ space i = GatheredTo table at space₀ i space

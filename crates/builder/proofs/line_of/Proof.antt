@@ -3,8 +3,6 @@ use Rattle.builder.proofs.Marks.{number-at}
 use borrow.Author.Needs.{needs}
 use Rattle.builder.proofs.line_of.Statement.{statement}
 use Rattle.builder.proofs.line_of.Tie as tie
-use Rattle.builder.proofs.line_of.Reads as reads
-use Rattle.builder.proofs.line_of.Lts as lts
 
 returns : tie.Need-returns
 returns c = search needs

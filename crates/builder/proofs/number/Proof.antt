@@ -8,9 +8,6 @@ use Rattle.builder.proofs.Numbering.{NumberedTo, numbered-none, numbere
 use borrow.Author.Needs.{needs}
 use Rattle.builder.proofs.number.Statement.{statement}
 use Rattle.builder.proofs.number.Tie as tie
-use Rattle.builder.proofs.number.Reads as reads
-use Rattle.builder.proofs.number.Lts as lts
-use Rattle.builder.proofs.renamed.Reads as renamed-reads
 
 abbrev Inv-loop : tie.InvT-loop
 Inv-loop space₀ at lines₀ i₀ space lines i = NumberedTo at space₀ i space lines

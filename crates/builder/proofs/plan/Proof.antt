@@ -8,9 +8,6 @@ use Rattle.builder.proofs.Planning.{PlannedFrom, planned-start, planned
 use borrow.Author.Needs.{needs}
 use Rattle.builder.proofs.plan.Statement.{statement}
 use Rattle.builder.proofs.plan.Tie as tie
-use Rattle.builder.proofs.plan.Reads as reads
-use Rattle.builder.proofs.plan.Lts as lts
-use Rattle.builder.proofs.visit.Reads as visit-reads
 
 abbrev Inv-loop : tie.InvT-loop
 Inv-loop rules records n table at space₀ i₀ space i = (length space ≡ 3 * length table) × PlannedFrom rules records n table at i space

@@ -4,8 +4,6 @@ use native.Mathlib.Omega.{arith}
 use borrow.Author.Needs.{needs}
 use Rattle.builder.proofs.put.Statement.{statement}
 use Rattle.builder.proofs.put.Tie as tie
-use Rattle.builder.proofs.put.Reads as reads
-use Rattle.builder.proofs.put.Lts as lts
 
 mul-space : tie.Need-mul-space
 mul-space c = search needs

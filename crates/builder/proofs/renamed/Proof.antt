@@ -5,12 +5,6 @@ use Rattle.builder.proofs.Marks.{renamed-is}
 use borrow.Author.Needs.{needs}
 use Rattle.builder.proofs.renamed.Statement.{statement}
 use Rattle.builder.proofs.renamed.Tie as tie
-use Rattle.builder.proofs.renamed.Reads as reads
-use Rattle.builder.proofs.renamed.Lts as lts
-use Rattle.builder.proofs.line_of.Reads as line-of-reads
-use Rattle.words.proofs.called_of.Reads as called-of-reads
-use Rattle.words.proofs.rule_of.Reads as rule-of-reads
-use Rattle.words.proofs.rule_word.Reads as rule-word-reads
 
 called-of-requires : tie.Need-called-of-requires
 called-of-requires c κs = search needs

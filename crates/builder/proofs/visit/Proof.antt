@@ -11,11 +11,6 @@ use lib.ListN.{length-set}
 use borrow.Author.Needs.{needs}
 use Rattle.builder.proofs.visit.Statement.{statement}
 use Rattle.builder.proofs.visit.Tie as tie
-use Rattle.builder.proofs.visit.Reads as reads
-use Rattle.builder.proofs.visit.Lts as lts
-use Rattle.builder.proofs.earlier.Reads as earlier-reads
-use Rattle.builder.proofs.ground.Reads as ground-reads
-use Rattle.builder.proofs.mark.Reads as mark-reads
 
 earlier-requires : tie.Need-earlier-requires
 earlier-requires c κs = search needs

@@ -4,10 +4,6 @@ use Rattle.engine.proofs.Answers.{well-formed, block-long, unread, take
 use borrow.Author.Needs.{needs}
 use Rattle.engine.proofs.check.Statement.{statement}
 use Rattle.engine.proofs.check.Tie as tie
-use Rattle.engine.proofs.check.Reads as reads
-use Rattle.engine.proofs.check.Lts as lts
-use Rattle.engine.proofs.takes.Reads as takes-reads
-use Rattle.formats.proofs.read.Reads as read-reads
 
 read-requires : tie.Need-read-requires
 read-requires c κs = search needs

@@ -5,12 +5,6 @@ use Rattle.engine.proofs.Answering.{decided, undecided, short-lent}
 use borrow.Author.Needs.{needs}
 use Rattle.engine.proofs.decide.Statement.{statement}
 use Rattle.engine.proofs.decide.Tie as tie
-use Rattle.engine.proofs.decide.Reads as reads
-use Rattle.engine.proofs.decide.Lts as lts
-use Rattle.engine.proofs.answer.Reads as answer-reads
-use Rattle.engine.proofs.lends.Reads as lends-reads
-use Rattle.engine.proofs.refuse.Reads as refuse-reads
-use Rattle.formats.proofs.read.Reads as read-reads
 
 read-requires : tie.Need-read-requires
 read-requires c κs = search needs

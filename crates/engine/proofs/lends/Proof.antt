@@ -4,8 +4,6 @@ use borrow.Author.Needs.{needs}
 use Rattle.words.proofs.Subheap.{told-true, told-false}
 use Rattle.engine.proofs.lends.Statement.{statement}
 use Rattle.engine.proofs.lends.Tie as tie
-use Rattle.engine.proofs.lends.Reads as reads
-use Rattle.engine.proofs.lends.Lts as lts
 
 returns : tie.Need-returns
 returns c = told-false (λ l. omega (arith, l .some))

@@ -4,10 +4,6 @@ use Rattle.search.proofs.ReadyBlocks.{ready-of}
 use borrow.Author.Needs.{needs}
 use Rattle.engine.proofs.takes.Statement.{statement}
 use Rattle.engine.proofs.takes.Tie as tie
-use Rattle.engine.proofs.takes.Reads as reads
-use Rattle.engine.proofs.takes.Lts as lts
-use Rattle.certificate.proofs.checker.check.Reads as check-reads
-use Rattle.engine.proofs.place.Reads as place-reads
 
 place-requires : tie.Need-place-requires
 place-requires c κs = search needs
