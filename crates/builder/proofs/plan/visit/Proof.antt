@@ -1,0 +1,111 @@
+-- `visit` meets its contract. `ground` gives a line from the facts of earlier rounds, which are those before the first place of the
+-- round; its words are written and its called places marked.
+use Prim.Native.Nat.{_+_, _*_}
+use lib.ListN.{set}
+use Rattle.builder.specs.Space.{calledAt}
+use mathlib.Core.Path.{_∙_}
+use Rattle.builder.proofs.Layers.{supplied-grounded}
+use Rattle.builder.proofs.Planning.{three-marks, written-long}
+use native.Mathlib.Omega.{arith}
+use lib.ListN.{length-set}
+use borrow.Author.Needs.{needs}
+use Rattle.builder.proofs.plan.visit.Statement.{statement}
+use Rattle.builder.proofs.plan.visit.Tie as tie
+
+earlier-requires : tie.Need-earlier-requires
+earlier-requires c κs = search needs
+
+mul-code-of : tie.Need-mul-code-of
+mul-code-of c = search needs
+
+shared-slice-read-code-of : tie.Need-shared-slice-read-code-of
+shared-slice-read-code-of c = search needs
+
+code-of-requires : tie.Need-code-of-requires
+code-of-requires c κs = search needs
+
+ground-requires : tie.Need-ground-requires
+ground-requires c κs = search needs
+
+mul-space : tie.Need-mul-space
+mul-space c = search needs
+
+add-space : tie.Need-add-space
+add-space c = search needs
+
+mul-space-2 : tie.Need-mul-space-2
+mul-space-2 c = search needs
+
+slice-write-space : tie.Need-slice-write-space
+slice-write-space c = search needs
+
+mul-space-3 : tie.Need-mul-space-3
+mul-space-3 c = search needs
+
+add-space-2 : tie.Need-add-space-2
+add-space-2 c = search needs
+
+mul-space-4 : tie.Need-mul-space-4
+mul-space-4 c = search needs
+
+slice-write-space-2 : tie.Need-slice-write-space-2
+slice-write-space-2 c = simp length-set (omega arith)
+
+mark-requires : tie.Need-mark-requires
+mark-requires c κs =
+    let a = c .before .before .before .before .before .before .before .args in
+    let g = c .before .ground in
+    (omega arith, omega (arith, g .ensures .within 0 (omega arith), c .before .before .before .before .earlier .ensures .upto, c .before .before .before .before .before .before .before .pre .place, c .before .before .before .before .before .before .before .pre .three, written-long (a .space .now) (a .i) (g .result .positions) (g .result .names)))
+
+mark-requires-2 : tie.Need-mark-requires-2
+mark-requires-2 c κs =
+    let a = c .before .before .before .before .before .before .before .before .before .before .before .args in
+    let g = c .before .before .before .before .before .ground in
+    (omega arith, omega (arith, g .ensures .within 1 (omega arith), c .before .before .before .before .before .before .before .before .earlier .ensures .upto, c .before .before .before .before .before .before .before .before .before .before .before .pre .place, c .before .before .before .before .before .before .before .before .before .before .before .pre .three, written-long (a .space .now) (a .i) (g .result .positions) (g .result .names), c .before .before .before .mark .kept .0))
+
+mark-requires-3 : tie.Need-mark-requires-3
+mark-requires-3 c κs =
+    let a = c .before .before .before .before .before .before .before .before .before .before .before .before .before .before .before .args in
+    let g = c .before .before .before .before .before .before .before .before .before .ground in
+    (omega arith, omega (arith, g .ensures .within 2 (omega arith), c .before .before .before .before .before .before .before .before .before .before .before .before .earlier .ensures .upto, c .before .before .before .before .before .before .before .before .before .before .before .before .before .before .before .pre .place, c .before .before .before .before .before .before .before .before .before .before .before .before .before .before .before .pre .three, written-long (a .space .now) (a .i) (g .result .positions) (g .result .names), c .before .before .before .before .before .before .before .mark .kept .0, c .before .before .before .mark2 .kept .0))
+
+same-length : tie.Need-same-length
+same-length c =
+    let a = c .before .before .before .before .before .before .before .before .before .before .before .before .before .before .before .before .before .before .args in
+    let g = c .before .before .before .before .before .before .before .before .before .before .before .before .ground in
+    c .before .before .mark3 .kept .0 ∙ c .before .before .before .before .before .before .mark2 .kept .0 ∙ c .before .before .before .before .before .before .before .before .before .before .mark .kept .0 ∙ written-long (a .space .now) (a .i) (g .result .positions) (g .result .names)
+
+returns : tie.Need-returns
+returns c =
+    let a = c .before .before .before .before .before .before .before .before .before .before .before .before .before .before .before .before .before .before .args in
+    let g = c .before .before .before .before .before .before .before .before .before .before .before .before .ground in
+    record {
+      positions = g .result .positions;
+      names = g .result .names;
+      within = λ k l. omega (arith, g .ensures .within k l, c .before .before .before .before .before .before .before .before .before .before .before .before .before .before .before .earlier .ensures .upto);
+      is-space = three-marks (set (set (a .space .now) (3 * a .i + 1) (g .result .positions)) (3 * a .i + 2) (g .result .names)) (calledAt (g .result .names) 0) (calledAt (g .result .names) 1) (calledAt (g .result .names) 2) (c .before .before .before .before .before .before .before .before .before .before .mark .ensures) (c .before .before .before .before .before .before .mark2 .ensures) (c .before .before .mark3 .ensures);
+      grounds = supplied-grounded (c .before .before .before .before .before .before .before .before .before .before .before .before .before .before .before .earlier .ensures) (rw (c .before .before .before .before .before .before .before .before .before .before .before .before .before .code-of .ensures) at (g .ensures));
+    }
+
+pub visit-spec : {M : Type 1} → statement M
+visit-spec =
+    tie.close
+    (tie.spec
+    earlier-requires
+    mul-code-of
+    shared-slice-read-code-of
+    code-of-requires
+    ground-requires
+    mul-space
+    add-space
+    mul-space-2
+    slice-write-space
+    mul-space-3
+    add-space-2
+    mul-space-4
+    slice-write-space-2
+    mark-requires
+    mark-requires-2
+    mark-requires-3
+    same-length
+    returns)
