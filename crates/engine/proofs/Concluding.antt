@@ -18,12 +18,12 @@ use Rattle.table.specs.Steps.{PlaceOf}
 use Rattle.table.specs.Table.{codeOf, factsIn}
 use Rattle.table.proofs.Passes.{facts-length}
 use Rattle.table.proofs.Rounds.{fact-at}
+use Rattle.table.proofs.Tags.{no-place}
 use Rattle.search.specs.InBlock.{Represents, domainIn}
 use Rattle.fixpoint.specs.Fixpoint.{Saturated, Overflows}
 use Rattle.builder.specs.Plan.{Builds}
 use Rattle.engine.specs.Evaluate.{inputOf, Evaluated}
 use Rattle.engine.proofs.Layers.{layered}
-use Rattle.engine.proofs.Places.{no-place}
 
 module _ {rules records : List ℕ} {n facts rounds : ℕ} {table : List ℕ} (sat : Saturated rules records n table facts rounds) where
   inside : facts ≤ length table

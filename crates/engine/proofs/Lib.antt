@@ -2,7 +2,6 @@ pub mod Ones
 pub mod Placing
 pub mod Answers
 pub mod Layers
-pub mod Places
 pub mod Concluding
 pub mod Answering
 pub mod Demands
