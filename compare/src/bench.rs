@@ -96,9 +96,11 @@ pub fn run(names: &[&str]) -> io::Result<()> {
         }
     }
     println!();
+    let (written, looked) = clearing();
     println!(
-        "To write zeros over so much memory once takes {:.3} ms here.",
-        clearing().as_secs_f64() * 1e3
+        "To write zeros over so much memory once takes {:.3} ms here, to find only zeros in it {:.3} ms.",
+        written.as_secs_f64() * 1e3,
+        looked.as_secs_f64() * 1e3
     );
     println!();
     println!("| hostile input | reply | facts | rounds | proved ms | |");
@@ -170,24 +172,31 @@ fn long_row(name: &str, input: &Input) -> io::Result<()> {
     Ok(())
 }
 
-/// Long enough for a few thousand processes: the start of one takes ten times
-/// as long as the smallest pool, so only the fastest of many can be compared.
+/// Long enough for hundreds of processes even of the slowest pool: to start one
+/// takes longer than the smallest pool, so only the fastest can be compared.
 const LONG_TIME: Duration = Duration::from_secs(10);
 
-const CLEARINGS: usize = 1_000;
+/// How often all that is lent with the longest table is written, and looked at.
+const PASSES: usize = 1_000;
 
-/// The fastest clearing of all that is lent with the longest table: whatever a
-/// program does, it must leave zeros after the facts and the lines.
-fn clearing() -> Duration {
+/// The fastest writing of zeros over all that is lent with the longest table,
+/// and the fastest look that finds nothing but zeros there.
+fn clearing() -> (Duration, Duration) {
     let mut lent = vec![1u64; 4 * MOST_LINES];
-    let mut fastest = Duration::MAX;
-    for _ in 0..CLEARINGS {
-        fastest = fastest.min(time(|| {
+    let (mut written, mut looked) = (Duration::MAX, Duration::MAX);
+    for _ in 0..PASSES {
+        written = written.min(time(|| {
             std::hint::black_box(&mut lent).fill(0);
             lent[0]
         }));
+        looked = looked.min(time(|| {
+            let lent = std::hint::black_box(&lent);
+            let blank = |block: &[u64]| block.iter().fold(0, |any, word| any | word) == 0;
+            let mut blocks = lent.rchunks_exact(128);
+            (blocks.all(blank) && blank(blocks.remainder())) as u64
+        }));
     }
-    fastest
+    (written, looked)
 }
 
 fn process(program: &Path, input: &[u8]) -> io::Result<(Duration, Vec<u8>)> {
