@@ -8,7 +8,7 @@ use native.Mathlib.Omega.{arith}
 use native.Mathlib.Decide.{decLt}
 use native.Mathlib.Nat.{eq-or-lt-of-le}
 use lib.ListN.{length, getD, length-map}
-use Rattle.semantics.specs.Lists.{_∈_, digits, zeros}
+use Rattle.semantics.specs.Lists.{_among_, digits, zeros}
 use Rattle.semantics.proofs.FixedPoint.{same-ground}
 use Rattle.semantics.specs.RuleSet.{RuleSet, WellFormed}
 use Rattle.semantics.specs.Heap.{Heap}
@@ -36,12 +36,12 @@ pub record Described (ruleSet : RuleSet) (heap : Heap) (domain table : List ℕ)
   pub names : (i : ℕ) → i ≤ at → markAt space i ≢ 0 → ruleAt words (suc (count space i)) ≡ renamed space (namesIn space i)
 
 -- where a member stands, with anything behind the list
-member-at : {x : ℕ} {xs : List ℕ} → x ∈ xs → (ys : List ℕ) → (k : ℕ) × (k < length xs) × (getD (xs ++ ys) k 0 ≡ x)
+member-at : {x : ℕ} {xs : List ℕ} → x among xs → (ys : List ℕ) → (k : ℕ) × (k < length xs) × (getD (xs ++ ys) k 0 ≡ x)
 member-at (List·Memᴰ·head e) ys = (0, omega arith, sym e)
 member-at (List·Memᴰ·tail m) ys = let (k, h, e) = member-at m ys in (suc k, omega arith, e)
 
 -- and which member stands there
-place-member : (x : ℕ) (xs : List ℕ) (n k : ℕ) → getD (map suc xs ++ zeros n) k 0 ≡ suc x → x ∈ xs
+place-member : (x : ℕ) (xs : List ℕ) (n k : ℕ) → getD (map suc xs ++ zeros n) k 0 ≡ suc x → x among xs
 place-member x [] zero k e = absurd (omega arith)
 place-member x [] (suc n) zero e = absurd (omega arith)
 place-member x [] (suc n) (suc k) e = place-member x [] n k e
@@ -67,7 +67,7 @@ module _ (ruleSet : RuleSet) (heap : Heap) (domain table : List ℕ) (at : ℕ) 
     number-few : g .number < 256
     number-few = omega (arith, g .in-rule-set, d .formed .rules-few)
 
-    place-small : (x : ℕ) → x ∈ map suc (g .places) → x < 65536
+    place-small : (x : ℕ) → x among map suc (g .places) → x < 65536
     place-small x m = let (j, k, e) = Memᴰ·of-map suc (g .places) m in omega (arith, g .allowed j k .before, d .few)
 
     -- the called places of the line
@@ -76,7 +76,7 @@ module _ (ruleSet : RuleSet) (heap : Heap) (domain table : List ℕ) (at : ℕ) 
         ap calledIn (g .named) ∙ called-read (g .number) (map suc (g .places)) number-few (omega (arith, length-map (g .places) suc, places-few)) place-small
 
     -- and they are marked
-    place-marked : (j : ℕ) → j ∈ g .places → markAt space j ≢ 0
+    place-marked : (j : ℕ) → j among g .places → markAt space j ≢ 0
     place-marked j m =
         let (k, h, e) = member-at (Memᴰ·map suc m) (zeros (3 - length (map suc (g .places)))) in
         let is : calledAt (namesIn space i) k ≡ suc j = ap (λ (xs : List ℕ). getD xs k 0) called-places ∙ e in
@@ -84,12 +84,12 @@ module _ (ruleSet : RuleSet) (heap : Heap) (domain table : List ℕ) (at : ℕ) 
         (λ r. let q : r .0 ≡ j = omega (arith, r .3) in rw q at (r .2))
         (d .planned .calls i upto marked k (omega (arith, length-map (g .places) suc, places-few)))
 
-    line-earlier : (l : ℕ) → l ∈ map (lineFor space) (g .places) → (1 ≤ l) × (l < lineFor space i)
+    line-earlier : (l : ℕ) → l among map (lineFor space) (g .places) → (1 ≤ l) × (l < lineFor space i)
     line-earlier l m =
         let (j, k, e) = Memᴰ·of-map (lineFor space) (g .places) m in
         (omega arith, omega (arith, count-apart space j i (g .allowed j k .before) (place-marked j k)))
 
-    line-small : (l : ℕ) → l ∈ map (lineFor space) (g .places) → l < 65536
+    line-small : (l : ℕ) → l among map (lineFor space) (g .places) → l < 65536
     line-small l m = let (low, high) = line-earlier l m in omega (arith, count-below space i, d .few)
 
     named-lines : ruleAt words (lineFor space i) ≡ g .number + 256 * digits 65536 (map (lineFor space) (g .places))
@@ -106,10 +106,10 @@ module _ (ruleSet : RuleSet) (heap : Heap) (domain table : List ℕ) (at : ℕ) 
         ∙ ap positive (called-read (g .number) (map (lineFor space) (g .places)) number-few (omega (arith, length-map (g .places) (lineFor space), places-few)) line-small)
         ∙ positive-padded (map (lineFor space) (g .places)) (3 - length (map (lineFor space) (g .places))) (λ l m. line-earlier l m .0)
 
-    facts-back : (places : List ℕ) → ((j : ℕ) → j ∈ places → j ∈ g .places) → map (factAt words) (map (lineFor space) places) ≡ map (codeAt table) places
+    facts-back : (places : List ℕ) → ((j : ℕ) → j among places → j among g .places) → map (factAt words) (map (lineFor space) places) ≡ map (codeAt table) places
     facts-back [] h = refl
     facts-back (j ∷ js) h =
-        let m : j ∈ g .places = h j (List·Memᴰ·head refl) in
+        let m : j among g .places = h j (List·Memᴰ·head refl) in
         ap₂ (λ (x : ℕ) (xs : List ℕ). x ∷ xs) (d .facts j (omega (arith, g .allowed j m .before)) (place-marked j m)) (facts-back js (λ x k. h x (List·Memᴰ·tail k)))
 
     line-holds : LineHolds ruleSet heap domain words (lineFor space i) (map (lineFor space) (g .places))
@@ -165,7 +165,7 @@ module _ (ruleSet : RuleSet) (heap : Heap) (domain table : List ℕ) (at : ℕ) 
     pub line : ℕ
     pub later : k < line
     pub within : line ≤ count space (suc at)
-    pub calls : k ∈ positive (calledIn (ruleAt words line))
+    pub calls : k among positive (calledIn (ruleAt words line))
 
   called-later : (i : ℕ) → i < at → markAt space i ≢ 0 → CalledLater (lineFor space i)
   called-later i l z = step (d .planned .used i l z)
@@ -173,7 +173,7 @@ module _ (ruleSet : RuleSet) (heap : Heap) (domain table : List ℕ) (at : ℕ) 
       step : (j : ℕ) × (i < j) × (j ≤ at) × (markAt space j ≢ 0) × (k : ℕ) × (k < 3) × (calledAt (namesIn space j) k ≡ suc i) → CalledLater (lineFor space i)
       step (j, less, upto, marked, k, few, e) =
           let g = d .grounds j upto marked in
-          let in-places : i ∈ g .places = place-member i (g .places) (3 - length (map suc (g .places))) k (ap (λ (xs : List ℕ). getD xs k 0) (sym (called-places j upto marked g)) ∙ e) in
+          let in-places : i among g .places = place-member i (g .places) (3 - length (map suc (g .places))) k (ap (λ (xs : List ℕ). getD xs k 0) (sym (called-places j upto marked g)) ∙ e) in
           record {
             line = lineFor space j;
             later = omega (arith, count-apart space i j less z);
@@ -209,7 +209,7 @@ module _ (ruleSet : RuleSet) (heap : Heap) (domain table : List ℕ) (at : ℕ) 
           apart (yes l) = omega arith
           apart (no z) = absurd (omega (arith, count-rises space (s .place) (r .place) (omega arith), r .is, s .is))
 
-  line-earlier-round : (k : ℕ) → 1 ≤ k → k ≤ count space (suc at) → (l : ℕ) → l ∈ positive (calledIn (ruleAt words k)) → roundAt table (placeOf l) < roundAt table (placeOf k)
+  line-earlier-round : (k : ℕ) → 1 ≤ k → k ≤ count space (suc at) → (l : ℕ) → l among positive (calledIn (ruleAt words k)) → roundAt table (placeOf l) < roundAt table (placeOf k)
   line-earlier-round k low high l m = step (place-is k low high)
     where
       step : (r : Numbered space (suc at) (k - 1)) × (placeOf k ≡ r .place) → roundAt table (placeOf l) < roundAt table (placeOf k)
@@ -218,7 +218,7 @@ module _ (ruleSet : RuleSet) (heap : Heap) (domain table : List ℕ) (at : ℕ) 
           let upto : i ≤ at = omega (arith, r .within) in
           let g = d .grounds i upto (r .marked) in
           let is-line : lineFor space i ≡ k = omega (arith, r .is) in
-          let m′ : l ∈ map (lineFor space) (g .places) = rw (← is-line, called-lines i upto (r .marked) g) at m in
+          let m′ : l among map (lineFor space) (g .places) = rw (← is-line, called-lines i upto (r .marked) g) at m in
           let (j, h, q) = Memᴰ·of-map (lineFor space) (g .places) m′ in
           let below : j < i = g .allowed j h .before in
           let full : markAt space j ≢ 0 = place-marked i upto (r .marked) g j h in

@@ -7,7 +7,7 @@ use mathlib.Core.Path.{_≡_}
 use Prim.Native.Nat.{ℕ, zero, suc, _+_, _*_, _/_, _%_, _≤_, _<_}
 use lib.ListN.{length, getD}
 use lib.Dec.{eqb}
-use Rattle.semantics.specs.Lists.{_∈_, digits, digitsOf}
+use Rattle.semantics.specs.Lists.{_among_, digits, digitsOf}
 use Rattle.semantics.specs.RuleSet.{RuleSet, ruleOf}
 use Rattle.semantics.specs.Heap.{Heap}
 use Rattle.semantics.specs.Fact.{position}
@@ -39,7 +39,7 @@ pub record Earlier (table : List ℕ) (i j : ℕ) : Type 0 where
 -- A ground of the fact f from facts at allowed places of the table, in the second and the third word of a line.
 pub record Grounded (ruleSet : RuleSet) (heap : Heap) (domain table : List ℕ) (Allowed : ℕ → Type 0) (f positions names : ℕ) : Type 0 where
   pub places : List ℕ
-  pub allowed : (j : ℕ) → j ∈ places → Allowed j
+  pub allowed : (j : ℕ) → j among places → Allowed j
   pub ground : Ground ruleSet heap domain (map (codeAt table) places) f
   pub number : ℕ
   pub in-rule-set : number < length (ruleSet .rules)

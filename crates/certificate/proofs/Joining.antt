@@ -5,7 +5,7 @@ use Prim.Native.Nat.{ℕ, _+_, _<_}
 use native.Mathlib.Omega.{arith}
 use lib.Bits.{bitAnd, and-zero-l, and-zero-r, or-lt, or-disjoint}
 use Rattle.semantics.specs.Heap.{Joins}
-use Rattle.semantics.specs.Lists.{_∈_}
+use Rattle.semantics.specs.Lists.{_among_}
 use Rattle.search.proofs.Disjoint.{apart-split, apart-join}
 
 -- The subheaps, joined one by one to those used, make up the whole.
@@ -46,7 +46,7 @@ joins-onto parts whole j = joins-rest j 0 whole (and-zero-l whole) (omega arith)
 pub sum-small : (a b : ℕ) → a < 65536 → b < 65536 → bitAnd a b ≡ 0 → a + b < 65536
 sum-small a b ha hb e = omega (arith, or-lt 16 a b ha hb, or-disjoint a b e)
 
-pub joins-small : {parts : List ℕ} {whole : ℕ} → Joins parts whole → ((p : ℕ) → p ∈ parts → p < 65536) → whole < 65536
+pub joins-small : {parts : List ℕ} {whole : ℕ} → Joins parts whole → ((p : ℕ) → p among parts → p < 65536) → whole < 65536
 joins-small Joins.none h = omega arith
 joins-small (Joins.next {part = part} {rest = rest} a j w) h =
     omega (arith, sum-small part rest (h part (List·Memᴰ·head refl)) (joins-small j (λ p m. h p (List·Memᴰ·tail m))) a)

@@ -5,7 +5,7 @@ use mathlib.Core.Logic.{⊎-elim}
 use Prim.Native.Nat.{ℕ, zero, suc, _+_, _-_, _*_, _/_, _%_, _≤_, _<_}
 use native.Mathlib.Omega.{arith}
 use lib.ListN.{length, getD}
-use Rattle.semantics.specs.Lists.{_∈_, digits, digitsOf}
+use Rattle.semantics.specs.Lists.{_among_, digits, digitsOf}
 use Rattle.words.proofs.Digits.{digit-at}
 use Rattle.certificate.specs.Line.{Positions}
 
@@ -44,14 +44,14 @@ unfolding Positions digits digitsOf
 positions-word n zero word p = p
 positions-word n (suc v) word p = omega (arith, positions-word n v (word / 256) (p .1))
 
-pub positions-below : (n v word : ℕ) → Positions n v word → (p : ℕ) → p ∈ digitsOf 256 v word → p < n
+pub positions-below : (n v word : ℕ) → Positions n v word → (p : ℕ) → p among digitsOf 256 v word → p < n
 unfolding Positions digitsOf
 positions-below n zero word h p m = absurd (List·Memᴰ·not-nil m)
 positions-below n (suc v) word h p m =
     ⊎-elim (λ (e : p ≡ word % 256). rw e (h .0)) (positions-below n v (word / 256) (h .1) p) (List·Memᴰ·cases-cons m)
 
 -- and a word of positions passes
-pub positions-pass : (n : ℕ) (ps : List ℕ) → n ≤ 256 → ((p : ℕ) → p ∈ ps → p < n) → Positions n (length ps) (digits 256 ps)
+pub positions-pass : (n : ℕ) (ps : List ℕ) → n ≤ 256 → ((p : ℕ) → p among ps → p < n) → Positions n (length ps) (digits 256 ps)
 unfolding Positions digits
 positions-pass n [] few h = refl
 positions-pass n (p ∷ ps) few h =

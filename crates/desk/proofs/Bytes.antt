@@ -7,7 +7,7 @@ use native.Mathlib.Omega.{arith}
 use native.Mathlib.Decide.{decLt}
 use lib.ListN.{length, getD, take, drop, set, length-set, length-take, List·getD-eq-default}
 use lib.Seq.{slice, drop-at, length-take-le, slice-cons, length-slice, take-suc-set, take-add, getD-drop, getD-take}
-use Rattle.semantics.specs.Lists.{_∈_, digits, digitsOf}
+use Rattle.semantics.specs.Lists.{_among_, digits, digitsOf}
 use Rattle.semantics.specs.Contract.{bytesOf}
 use Rattle.semantics.proofs.Digits.{digits-below, digits-back}
 use Rattle.desk.specs.Words.{Loads}
@@ -25,7 +25,7 @@ word-more bytes at j high inside e =
     rw (slice-cons (at + j) (at + 8) bytes 0 (omega arith) inside) (omega (arith, e′))
 
 -- the bytes from one place to another are bytes
-slice-bytes : (bytes : List ℕ) (a b : ℕ) → AllBytes bytes → (x : ℕ) → x ∈ slice a b bytes → x < 256
+slice-bytes : (bytes : List ℕ) (a b : ℕ) → AllBytes bytes → (x : ℕ) → x among slice a b bytes → x < 256
 slice-bytes bytes a b all x m = member (drop a (take b bytes)) (λ i. rw getD-drop (under (a + i))) x m
   where
     under : (i : ℕ) → getD (take b bytes) i 0 < 256
@@ -35,7 +35,7 @@ slice-bytes bytes a b all x m = member (drop a (take b bytes)) (λ i. rw getD-dr
         by (yes l) = rw (getD-take b bytes i 0 l) (all i)
         by (no n) = rw (List·getD-eq-default (take b bytes) 0 {n = i} (omega (arith, length-take b bytes))) (omega arith)
 
-    member : (xs : List ℕ) → ((i : ℕ) → getD xs i 0 < 256) → (x : ℕ) → x ∈ xs → x < 256
+    member : (xs : List ℕ) → ((i : ℕ) → getD xs i 0 < 256) → (x : ℕ) → x among xs → x < 256
     member [] h x m = absurd (List·Memᴰ·not-nil m)
     member (y ∷ xs) h x m = ⊎-elim (λ e. omega (arith, h 0)) (member xs (λ i. h (suc i)) x) (List·Memᴰ·cases-cons m)
 

@@ -7,7 +7,7 @@ use native.Mathlib.Omega.{arith}
 use native.Mathlib.Nat.{pow-suc}
 use lib.ListN.{length, take, drop, length-append}
 use lib.Seq.{take-all, take-at, drop-at}
-use Rattle.semantics.specs.Lists.{_∈_, digits, digitsOf}
+use Rattle.semantics.specs.Lists.{_among_, digits, digitsOf}
 use Rattle.semantics.specs.Formats.{Input}
 use Rattle.semantics.specs.Contract.{CertificateInput, DeskTakes, bytesOf}
 use Rattle.semantics.proofs.Digits.{digitsOf-length}
@@ -24,7 +24,7 @@ bytes-length [] = refl
 bytes-length (w ∷ words) = omega (arith, length-append (digitsOf 256 8 w) (bytesOf words), digitsOf-length 256 8 w, bytes-length words)
 
 abbrev Small : List ℕ → Type 0
-Small words = (w : ℕ) → w ∈ words → w < 18446744073709551616
+Small words = (w : ℕ) → w among words → w < 18446744073709551616
 
 -- bytes decide their words
 bytes-decide : (xs ys : List ℕ) → Small xs → Small ys → bytesOf xs ≡ bytesOf ys → xs ≡ ys

@@ -5,7 +5,7 @@ use Prim.Native.Nat.{ℕ, zero, suc, _+_, _-_, _*_, _≤_, _<_}
 use native.Mathlib.Omega.{arith}
 use lib.ListN.{length, getD, drop, length-drop, drop-of-length-le}
 use lib.Seq.{drop-cons}
-use Rattle.semantics.specs.Lists.{_∈_}
+use Rattle.semantics.specs.Lists.{_among_}
 use Rattle.semantics.specs.Heap.{Record, blank, recordValues, heapValues, WellFormedHeap}
 use Rattle.semantics.proofs.DomainFacts.{heap-length}
 use Rattle.words.specs.Block.{tabulate, recordIn, heapIn}
@@ -23,7 +23,7 @@ module _ (heap : List ℕ) (formed : WellFormedHeap (heapIn heap)) where
   pub records-few : getD heap 0 0 ≤ 16
   records-few = omega (arith, formed .records-few, heap-count heap)
 
-  pub record-in : (k : ℕ) → k < getD heap 0 0 → recordIn heap (1 + 6 * k) ∈ heapIn heap
+  pub record-in : (k : ℕ) → k < getD heap 0 0 → recordIn heap (1 + 6 * k) among heapIn heap
   unfolding heapIn
   record-in k h = tabulate-in (getD heap 0 0) (λ (i : ℕ). recordIn heap (1 + 6 * i)) k h
 
@@ -50,7 +50,7 @@ heap-down heap k h l p q =
     rw here (inserted-also (recordValues (f (k - 1))) (heapValues (drop k (tabulate n f))) p q)
 
 -- members of what is left of a list are members of the list
-drop-in : {A : Type 0} {a : A} (k : ℕ) (xs : List A) → a ∈ drop k xs → a ∈ xs
+drop-in : {A : Type 0} {a : A} (k : ℕ) (xs : List A) → a among drop k xs → a among xs
 drop-in zero xs m = m
 drop-in (suc k) [] m = m
 drop-in (suc k) (x ∷ xs) m = List·Memᴰ·tail (drop-in k xs m)

@@ -3,7 +3,7 @@ use mathlib.Core.List.{List}
 use mathlib.Core.Path.{_≡_}
 use Prim.Native.Nat.{ℕ, _≤_}
 use lib.ListN.{length, take}
-use Rattle.semantics.specs.Lists.{_∈_, Ascending}
+use Rattle.semantics.specs.Lists.{_among_, Ascending}
 use Rattle.semantics.specs.Formats.{Input}
 use Rattle.semantics.specs.Domain.{mostValues}
 use Rattle.semantics.specs.Contract.{domainOf}
@@ -19,4 +19,4 @@ pub record Placeable (domain : List ℕ) (n : ℕ) (values : List ℕ) : Type 0 
   pub long : length domain ≡ 96
   pub few : n ≤ mostValues
   pub ordered : Ascending (take n domain)
-  pub all : (v : ℕ) → v ∈ values → v ∈ take n domain
+  pub all : (v : ℕ) → v among values → v among take n domain

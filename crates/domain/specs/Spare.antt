@@ -3,7 +3,7 @@ use mathlib.Core.List.{List, _∷_, _++_}
 use mathlib.Core.Path.{_≡_}
 use Prim.Native.Nat.{ℕ, _≤_, _<_}
 use lib.ListN.{length, getD, take}
-use Rattle.semantics.specs.Lists.{_∈_}
+use Rattle.semantics.specs.Lists.{_among_}
 use Rattle.semantics.specs.Heap.{WellFormedHeap, heapValues}
 use Rattle.semantics.specs.Domain.{spares, ascending}
 use Rattle.words.specs.Block.{entries, heapIn}
@@ -31,8 +31,8 @@ pub record Readable (heap query : List ℕ) : Type 0 where
 -- The smallest number from `start` on that is not in the list.
 pub record Spare (values : List ℕ) (start v : ℕ) : Type 0 where
   pub low : start ≤ v
-  pub free : ¬ (v ∈ values)
-  pub taken : (k : ℕ) → start ≤ k → k < v → k ∈ values
+  pub free : ¬ (v among values)
+  pub taken : (k : ℕ) → start ≤ k → k < v → k among values
 
 -- The first n values of the array are those of the list, ascending and without repeat.
 pub record Carries (domain : List ℕ) (n : ℕ) (values : List ℕ) : Type 0 where

@@ -6,7 +6,7 @@ use Prim.Native.Nat.{ℕ, _<_}
 use native.Mathlib.Omega.{arith}
 use lib.ListN.{getD, take}
 use lib.Seq.{getD-take, length-take-le}
-use Rattle.semantics.specs.Lists.{_∈_, Ascending}
+use Rattle.semantics.specs.Lists.{_among_, Ascending}
 use Rattle.semantics.specs.RuleSet.{RuleSet}
 use Rattle.semantics.specs.Heap.{Heap}
 use Rattle.semantics.proofs.FixedPoint.{follows-more}
@@ -38,7 +38,7 @@ module _ (ruleSet : RuleSet) (heap : Heap) (domain table : List ℕ) (old facts 
     follows = λ i l. let s = rests i l in follows-more ruleSet heap domain (earlier i l s) (s .follows);
   }
     where
-      earlier : (i : ℕ) → i < facts → (s : Rests ruleSet heap domain table facts i) → (g : ℕ) → g ∈ factsIn table (s .start) → EarlierFact table facts i g
+      earlier : (i : ℕ) → i < facts → (s : Rests ruleSet heap domain table facts i) → (g : ℕ) → g among factsIn table (s .start) → EarlierFact table facts i g
       earlier i l s g m =
           let p = place-of m in
           let long = facts-length table (s .start) (omega (arith, s .before, tagged .within)) in

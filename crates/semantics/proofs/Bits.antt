@@ -8,7 +8,7 @@ use native.Mathlib.Omega.{arith}
 use native.Mathlib.Decide.{ℕ-discrete, decLt}
 use lib.Pow.{pow-pos}
 use lib.Bits.{bitAnd, and-step}
-use Rattle.semantics.specs.Lists.{_∈_, Distinct}
+use Rattle.semantics.specs.Lists.{_among_, Distinct}
 use Rattle.semantics.specs.Heap.{setOf}
 
 -- bit i of n, 0 or 1
@@ -62,25 +62,25 @@ bits-below n (suc k) none =
     omega (arith, pow-suc 2 k)
 
 -- the bits of the set of a list without repeats are its members
-pub bit-out : (is : List ℕ) → Distinct is → (j : ℕ) → ¬ (j ∈ is) → bit (setOf is) j ≡ 0
+pub bit-out : (is : List ℕ) → Distinct is → (j : ℕ) → ¬ (j among is) → bit (setOf is) j ≡ 0
 bit-out [] d j n = bit-zero j
 bit-out (i ∷ is) (Distinct.next h d) j n =
     bit-add-other (setOf is) i j (bit-out is d i h) (λ e. n (List·Memᴰ·head (sym e))) ∙ bit-out is d j (λ m. n (List·Memᴰ·tail m))
 
-pub bit-in : (is : List ℕ) → Distinct is → (j : ℕ) → j ∈ is → bit (setOf is) j ≡ 1
+pub bit-in : (is : List ℕ) → Distinct is → (j : ℕ) → j among is → bit (setOf is) j ≡ 1
 bit-in [] d j m = absurd (List·Memᴰ·not-nil m)
 bit-in (i ∷ is) (Distinct.next h d) j m = step (List·Memᴰ·cases-cons m) (bit-in is d j)
   where
-    step : (j ≡ i) ⊎ (j ∈ is) → (j ∈ is → bit (setOf is) j ≡ 1) → bit (setOf (i ∷ is)) j ≡ 1
+    step : (j ≡ i) ⊎ (j among is) → (j among is → bit (setOf is) j ≡ 1) → bit (setOf (i ∷ is)) j ≡ 1
     step (inl e) rec = rw e (bit-add-same (setOf is) i (bit-out is d i h))
     step (inr m′) rec = bit-add-other (setOf is) i j (bit-out is d i h) (λ e. h (Memᴰ·cast e m′)) ∙ rec m′
 
 -- membership is decided
-pub decIn : (i : ℕ) (is : List ℕ) → Dec (i ∈ is)
+pub decIn : (i : ℕ) (is : List ℕ) → Dec (i among is)
 decIn i [] = no List·Memᴰ·not-nil
 decIn i (x ∷ is) = step (ℕ-discrete i x) (decIn i is)
   where
-    step : Dec (i ≡ x) → Dec (i ∈ is) → Dec (i ∈ x ∷ is)
+    step : Dec (i ≡ x) → Dec (i among is) → Dec (i among x ∷ is)
     step (yes e) d = yes (List·Memᴰ·head e)
     step (no n) (yes m) = yes (List·Memᴰ·tail m)
     step (no n) (no n′) = no (λ h. ⊎-elim n n′ (List·Memᴰ·cases-cons h))
@@ -98,31 +98,31 @@ pub distinct-right : (xs ys : List ℕ) → Distinct (xs ++ ys) → Distinct ys
 distinct-right [] ys d = d
 distinct-right (x ∷ xs) ys (Distinct.next n d) = distinct-right xs ys d
 
-pub distinct-apart : (xs ys : List ℕ) → Distinct (xs ++ ys) → (i : ℕ) → i ∈ xs → ¬ (i ∈ ys)
+pub distinct-apart : (xs ys : List ℕ) → Distinct (xs ++ ys) → (i : ℕ) → i among xs → ¬ (i among ys)
 distinct-apart [] ys d i m k = List·Memᴰ·not-nil m
 distinct-apart (x ∷ xs) ys (Distinct.next n d) i m k =
-    ⊎-elim (λ (e : i ≡ x). n (Memᴰ·append-right xs (Memᴰ·cast (sym e) k))) (λ (m′ : i ∈ xs). distinct-apart xs ys d i m′ k) (List·Memᴰ·cases-cons m)
+    ⊎-elim (λ (e : i ≡ x). n (Memᴰ·append-right xs (Memᴰ·cast (sym e) k))) (λ (m′ : i among xs). distinct-apart xs ys d i m′ k) (List·Memᴰ·cases-cons m)
 
-pub distinct-append : (xs ys : List ℕ) → Distinct xs → Distinct ys → ((i : ℕ) → i ∈ xs → ¬ (i ∈ ys)) → Distinct (xs ++ ys)
+pub distinct-append : (xs ys : List ℕ) → Distinct xs → Distinct ys → ((i : ℕ) → i among xs → ¬ (i among ys)) → Distinct (xs ++ ys)
 distinct-append [] ys dx dy apart = dy
 distinct-append (x ∷ xs) ys (Distinct.next n dx) dy apart =
     Distinct.next (λ m. ⊎-elim n (apart x (List·Memᴰ·head refl)) (List·Memᴰ·append-cases xs m))
     (distinct-append xs ys dx dy (λ i m. apart i (List·Memᴰ·tail m)))
 
 -- two sets share no bit exactly if the lists share no member
-pub apart-and : (xs ys : List ℕ) → Distinct xs → Distinct ys → ((i : ℕ) → i ∈ xs → ¬ (i ∈ ys)) → bitAnd (setOf xs) (setOf ys) ≡ 0
+pub apart-and : (xs ys : List ℕ) → Distinct xs → Distinct ys → ((i : ℕ) → i among xs → ¬ (i among ys)) → bitAnd (setOf xs) (setOf ys) ≡ 0
 apart-and xs ys dx dy apart = bits-zero (bitAnd (setOf xs) (setOf ys)) (λ i. bit-and (setOf xs) (setOf ys) i ∙ step i (decIn i xs))
   where
-    step : (i : ℕ) → Dec (i ∈ xs) → min (bit (setOf xs) i) (bit (setOf ys) i) ≡ 0
+    step : (i : ℕ) → Dec (i among xs) → min (bit (setOf xs) i) (bit (setOf ys) i) ≡ 0
     step i (yes m) = omega (arith, bit-out ys dy i (apart i m))
     step i (no n) = omega (arith, bit-out xs dx i n)
 
-pub and-apart : (xs ys : List ℕ) → Distinct xs → Distinct ys → bitAnd (setOf xs) (setOf ys) ≡ 0 → (i : ℕ) → i ∈ xs → ¬ (i ∈ ys)
+pub and-apart : (xs ys : List ℕ) → Distinct xs → Distinct ys → bitAnd (setOf xs) (setOf ys) ≡ 0 → (i : ℕ) → i among xs → ¬ (i among ys)
 and-apart xs ys dx dy e i m k =
     omega (arith, bit-in xs dx i m, bit-in ys dy i k, bit-and (setOf xs) (setOf ys) i, ap (λ (n : ℕ). bit n i) e, bit-zero i)
 
 -- a set of numbers below k is below 2 ^ k
-pub setOf-below : (k : ℕ) (is : List ℕ) → Distinct is → ((i : ℕ) → i ∈ is → i < k) → setOf is < 2 ^ k
+pub setOf-below : (k : ℕ) (is : List ℕ) → Distinct is → ((i : ℕ) → i among is → i < k) → setOf is < 2 ^ k
 setOf-below k is d below = bits-below (setOf is) k (λ i h. bit-out is d i (λ m. omega (arith, below i m)))
 
 -- the set of all numbers below n
@@ -147,17 +147,17 @@ same-bits-fuel a b (suc fuel) ha hb h =
 pub same-bits : (a b : ℕ) → ((i : ℕ) → bit a i ≡ bit b i) → a ≡ b
 same-bits a b h = same-bits-fuel a b (a + b) (omega arith) (omega arith) h
 
-pub whole-set : (n : ℕ) (is : List ℕ) → Distinct is → ((i : ℕ) → i ∈ is → i < n) → ((i : ℕ) → i < n → i ∈ is) → setOf is ≡ 2 ^ n - 1
+pub whole-set : (n : ℕ) (is : List ℕ) → Distinct is → ((i : ℕ) → i among is → i < n) → ((i : ℕ) → i < n → i among is) → setOf is ≡ 2 ^ n - 1
 whole-set n is d below all = same-bits (setOf is) (2 ^ n - 1) (λ i. step i (decLt i n))
   where
     step : (i : ℕ) → Dec (i < n) → bit (setOf is) i ≡ bit (2 ^ n - 1) i
     step i (yes h) = bit-in is d i (all i h) ∙ sym (bit-ones-in n i h)
     step i (no h) = bit-out is d i (λ m. h (below i m)) ∙ sym (bit-ones-out n i (omega arith))
 
-pub whole-members : (n : ℕ) (is : List ℕ) → Distinct is → setOf is ≡ 2 ^ n - 1 → (i : ℕ) → i < n → i ∈ is
+pub whole-members : (n : ℕ) (is : List ℕ) → Distinct is → setOf is ≡ 2 ^ n - 1 → (i : ℕ) → i < n → i among is
 whole-members n is d e i h = step (decIn i is)
   where
-    step : Dec (i ∈ is) → i ∈ is
+    step : Dec (i among is) → i among is
     step (yes m) = m
     step (no k) = absurd (omega (arith, bit-out is d i k, bit-ones-in n i h, ap (λ (m : ℕ). bit m i) e))
 

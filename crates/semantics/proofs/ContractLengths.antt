@@ -5,7 +5,7 @@ use mathlib.Core.List.{List, [], _∷_, List·Memᴰ·cases-cons, List·Memᴰ·
 use Prim.Native.Nat.{ℕ, zero, suc, _-_, _*_, _≤_, _<_}
 use native.Mathlib.Omega.{arith}
 use lib.ListN.{length, length-append, length-replicate}
-use Rattle.semantics.specs.Lists.{_∈_, Distinct, zeros}
+use Rattle.semantics.specs.Lists.{_among_, Distinct, zeros}
 use Rattle.semantics.specs.Formats.{Input}
 use Rattle.semantics.specs.Certificate.{factAt}
 use Rattle.semantics.specs.Contract.{domainOf, TrimmedInput, CompletedInput, padded, Answers, Decided}
@@ -21,7 +21,7 @@ unfolding facts-to
 to-length words zero = refl
 to-length words (suc n) = ap suc (to-length words n)
 
-to-member : (words : List ℕ) (n f : ℕ) → f ∈ facts-to words n → (k : ℕ) × (1 ≤ k) × (k ≤ n) × (f ≡ factAt words k)
+to-member : (words : List ℕ) (n f : ℕ) → f among facts-to words n → (k : ℕ) × (1 ≤ k) × (k ≤ n) × (f ≡ factAt words k)
 unfolding facts-to
 to-member words zero f m = absurd (List·Memᴰ·not-nil m)
 to-member words (suc n) f m =

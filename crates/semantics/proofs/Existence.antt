@@ -11,7 +11,7 @@ use lib.ListN.{length, getD, length-append, List·getD-append}
 use lib.Seq.{getD-append-add}
 use lib.Dec.{eqb}
 use borrow.Author.Tests.{eq-eqb, ne-eqb}
-use Rattle.semantics.specs.Lists.{_∈_, Distinct, digits}
+use Rattle.semantics.specs.Lists.{_among_, Distinct, digits}
 use Rattle.semantics.specs.RuleSet.{RuleSet, blankRule}
 use Rattle.semantics.specs.Heap.{Heap, wholeOf}
 use Rattle.semantics.specs.Formats.{Valid}
@@ -30,7 +30,7 @@ module _ (ruleSet : RuleSet) (heap : Heap) (values : List ℕ) where
   -- Facts, newest first, each from older ones, none twice.
   pub data Built : List ℕ → Type 0 where
     none : Built []
-    more : {f : ℕ} {fs : List ℕ} (called : List ℕ) → Ground ruleSet heap values called f → ((g : ℕ) → g ∈ called → g ∈ fs) → ¬ (f ∈ fs)
+    more : {f : ℕ} {fs : List ℕ} (called : List ℕ) → Ground ruleSet heap values called f → ((g : ℕ) → g among called → g among fs) → ¬ (f among fs)
         → Built fs → Built (f ∷ fs)
 
   built-distinct : {fs : List ℕ} → Built fs → Distinct fs
@@ -41,13 +41,13 @@ module _ (ruleSet : RuleSet) (heap : Heap) (values : List ℕ) where
   record Grown (fs gs : List ℕ) : Type 0 where
     pub facts : List ℕ
     pub built : Built facts
-    pub old : (g : ℕ) → g ∈ fs → g ∈ facts
-    pub new : (g : ℕ) → g ∈ gs → g ∈ facts
+    pub old : (g : ℕ) → g among fs → g among facts
+    pub new : (g : ℕ) → g among gs → g among facts
 
   grown-fact : (fs called : List ℕ) (f : ℕ) → Ground ruleSet heap values called f → Grown fs called → Grown fs (f ∷ [])
   grown-fact fs called f g w = step (decIn f (w .facts))
     where
-      step : Dec (f ∈ w .facts) → Grown fs (f ∷ [])
+      step : Dec (f among w .facts) → Grown fs (f ∷ [])
       step (yes m) = record {
         facts = w .facts;
         built = w .built;
@@ -82,20 +82,20 @@ module _ (ruleSet : RuleSet) (heap : Heap) (values : List ℕ) where
   -- some fact of the list calls g
   abbrev CalledIn : {fs : List ℕ} → Built fs → ℕ → Type 0
   CalledIn Built.none g = ⊥
-  CalledIn (Built.more called gr k n b) g = (g ∈ called) ⊎ CalledIn b g
+  CalledIn (Built.more called gr k n b) g = (g among called) ⊎ CalledIn b g
 
   -- only what is needed
   record Pruned (need fs : List ℕ) : Type 0 where
     pub facts : List ℕ
     pub built : Built facts
-    pub has : (g : ℕ) → g ∈ need → g ∈ facts
-    pub within : (g : ℕ) → g ∈ facts → g ∈ fs
-    pub used : (g : ℕ) → g ∈ facts → (g ∈ need) ⊎ CalledIn built g
+    pub has : (g : ℕ) → g among need → g among facts
+    pub within : (g : ℕ) → g among facts → g among fs
+    pub used : (g : ℕ) → g among facts → (g among need) ⊎ CalledIn built g
 
   skip : (f : ℕ) (need fs : List ℕ) → Pruned need fs → Pruned need (f ∷ fs)
   skip f need fs r = record { facts = r .facts; built = r .built; has = r .has; within = λ g m. List·Memᴰ·tail (r .within g m); used = r .used }
 
-  take-in : (f : ℕ) (need called fs : List ℕ) → Ground ruleSet heap values called f → ¬ (f ∈ fs) → f ∈ need → Pruned (leave f need ++ called) fs → Pruned need (f ∷ fs)
+  take-in : (f : ℕ) (need called fs : List ℕ) → Ground ruleSet heap values called f → ¬ (f among fs) → f among need → Pruned (leave f need ++ called) fs → Pruned need (f ∷ fs)
   take-in f need called fs g n m r = record {
     facts = f ∷ r .facts;
     built = Built.more called g (λ h k. r .has h (Memᴰ·append-right (leave f need) k)) (λ k. n (r .within f k)) (r .built);
@@ -106,15 +106,15 @@ module _ (ruleSet : RuleSet) (heap : Heap) (values : List ℕ) where
         (λ c. inr (inr c)) (r .used h i)) (List·Memᴰ·cases-cons k);
   }
     where
-      has : (h : ℕ) → h ∈ need → Dec (f ≡ h) → h ∈ f ∷ r .facts
+      has : (h : ℕ) → h among need → Dec (f ≡ h) → h among f ∷ r .facts
       has h k (yes e) = List·Memᴰ·head (sym e)
       has h k (no d) = List·Memᴰ·tail (r .has h (Memᴰ·append-left called (leave-in f need h k d)))
 
-  prune : {fs : List ℕ} → Built fs → (need : List ℕ) → ((g : ℕ) → g ∈ need → g ∈ fs) → Pruned need fs
+  prune : {fs : List ℕ} → Built fs → (need : List ℕ) → ((g : ℕ) → g among need → g among fs) → Pruned need fs
   prune Built.none need h = record { facts = []; built = Built.none; has = h; within = λ g m. m; used = λ g m. absurd (List·Memᴰ·not-nil m) }
   prune (Built.more {f = f} {fs = fs} called g k n b) need h = step (decIn f need) (λ nd hd. prune b nd hd)
     where
-      step : Dec (f ∈ need) → ((nd : List ℕ) → ((x : ℕ) → x ∈ nd → x ∈ fs) → Pruned nd fs) → Pruned need (f ∷ fs)
+      step : Dec (f among need) → ((nd : List ℕ) → ((x : ℕ) → x among nd → x among fs) → Pruned nd fs) → Pruned need (f ∷ fs)
       step (no d) rec = skip f need fs (rec need (λ x m. ⊎-elim (λ e. absurd (d (Memᴰ·cast (sym e) m))) (λ i. i) (List·Memᴰ·cases-cons (h x m))))
       step (yes m) rec = take-in f need called fs g n m
           (rec (leave f need ++ called) (λ x i. ⊎-elim
@@ -122,11 +122,11 @@ module _ (ruleSet : RuleSet) (heap : Heap) (values : List ℕ) where
           (k x) (List·Memᴰ·append-cases (leave f need) i)))
 
   -- what is called is older
-  called-in : {fs : List ℕ} (b : Built fs) (g : ℕ) → CalledIn b g → g ∈ fs
+  called-in : {fs : List ℕ} (b : Built fs) (g : ℕ) → CalledIn b g → g among fs
   called-in Built.none g c = absurd c
   called-in (Built.more called gr k n b) g c = List·Memᴰ·tail (⊎-elim (k g) (called-in b g) c)
 
-  called-older : {f : ℕ} {fs : List ℕ} (b : Built (f ∷ fs)) (g : ℕ) → CalledIn b g → g ∈ fs
+  called-older : {f : ℕ} {fs : List ℕ} (b : Built (f ∷ fs)) (g : ℕ) → CalledIn b g → g among fs
   called-older (Built.more called gr k n b) g c = ⊎-elim (k g) (called-in b g) c
 
   -- the line of a fact: the oldest is line 1
@@ -142,29 +142,29 @@ module _ (ruleSet : RuleSet) (heap : Heap) (values : List ℕ) where
   unfolding lineOf
   line-tail f g fs n = rw (ne-eqb g f n, lineOf) refl
 
-  line-bounds : (fs : List ℕ) (g : ℕ) → g ∈ fs → (1 ≤ lineOf fs g) × (lineOf fs g ≤ length fs)
+  line-bounds : (fs : List ℕ) (g : ℕ) → g among fs → (1 ≤ lineOf fs g) × (lineOf fs g ≤ length fs)
   line-bounds [] g m = absurd (List·Memᴰ·not-nil m)
   line-bounds (f ∷ fs) g m = step (ℕ-discrete g f) (List·Memᴰ·cases-cons m) (line-bounds fs g)
     where
-      step : Dec (g ≡ f) → (g ≡ f) ⊎ (g ∈ fs) → (g ∈ fs → (1 ≤ lineOf fs g) × (lineOf fs g ≤ length fs))
+      step : Dec (g ≡ f) → (g ≡ f) ⊎ (g among fs) → (g among fs → (1 ≤ lineOf fs g) × (lineOf fs g ≤ length fs))
           → (1 ≤ lineOf (f ∷ fs) g) × (lineOf (f ∷ fs) g ≤ length (f ∷ fs))
       step (yes e) c rec = rw (e, line-head f fs) (omega arith, omega arith)
       step (no d) (inl e) rec = absurd (d e)
       step (no d) (inr i) rec = rw (line-tail f g fs d) (rec i .0, omega (arith, rec i .1))
 
   -- the fact of a line
-  line-fact : (fs : List ℕ) → Distinct fs → (k : ℕ) → 1 ≤ k → k ≤ length fs → (g : ℕ) × (g ∈ fs) × (lineOf fs g ≡ k)
+  line-fact : (fs : List ℕ) → Distinct fs → (k : ℕ) → 1 ≤ k → k ≤ length fs → (g : ℕ) × (g among fs) × (lineOf fs g ≡ k)
   line-fact [] d k low high = absurd (omega arith)
   line-fact (f ∷ fs) (Distinct.next n d) k low high = step (ℕ-discrete k (suc (length fs))) (line-fact fs d k low)
     where
-      step : Dec (k ≡ suc (length fs)) → (k ≤ length fs → (g : ℕ) × (g ∈ fs) × (lineOf fs g ≡ k)) → (g : ℕ) × (g ∈ f ∷ fs) × (lineOf (f ∷ fs) g ≡ k)
+      step : Dec (k ≡ suc (length fs)) → (k ≤ length fs → (g : ℕ) × (g among fs) × (lineOf fs g ≡ k)) → (g : ℕ) × (g among f ∷ fs) × (lineOf (f ∷ fs) g ≡ k)
       step (yes e) rec = (f, List·Memᴰ·head refl, line-head f fs ∙ sym e)
       step (no q) rec =
           let (g, m, e) = rec (omega arith) in
           (g, List·Memᴰ·tail m, line-tail f g fs (λ p. n (Memᴰ·cast (sym p) m)) ∙ e)
 
   -- the number of a rule
-  spot : {A : Type 0} (z : A) {a : A} {xs : List A} → a ∈ xs → (i : ℕ) × (i < length xs) × (getD xs i z ≡ a)
+  spot : {A : Type 0} (z : A) {a : A} {xs : List A} → a among xs → (i : ℕ) × (i < length xs) × (getD xs i z ≡ a)
   spot z (List·Memᴰ·head e) = (0, omega arith, sym e)
   spot z (List·Memᴰ·tail m) = let (i, h, e) = spot z m in (suc i, omega arith, e)
 
@@ -198,13 +198,13 @@ module _ (ruleSet : RuleSet) (heap : Heap) (values : List ℕ) where
 
   module _ (words : List ℕ) where
     -- the fact of a line is where it should be
-    fact-there : {fs : List ℕ} (b : Built fs) → Agrees words (wordsOf b) → (g : ℕ) → g ∈ fs → factAt words (lineOf fs g) ≡ g
+    fact-there : {fs : List ℕ} (b : Built fs) → Agrees words (wordsOf b) → (g : ℕ) → g among fs → factAt words (lineOf fs g) ≡ g
     unfolding wordsOf wordsFor
     fact-there Built.none a g m = absurd (List·Memᴰ·not-nil m)
     fact-there (Built.more {f = f} {fs = fs} called gr k n b) a g m =
         step (ℕ-discrete g f) (List·Memᴰ·cases-cons m) (fact-there b (agrees-older words (wordsOf b) (wordsFor f fs called gr) a) g)
       where
-        step : Dec (g ≡ f) → (g ≡ f) ⊎ (g ∈ fs) → (g ∈ fs → factAt words (lineOf fs g) ≡ g) → factAt words (lineOf (f ∷ fs) g) ≡ g
+        step : Dec (g ≡ f) → (g ≡ f) ⊎ (g among fs) → (g among fs → factAt words (lineOf fs g) ≡ g) → factAt words (lineOf (f ∷ fs) g) ≡ g
         step (yes e) c rec =
             rw (e, line-head f fs)
             (ap (λ (i : ℕ). getD words i 0) (omega (arith, words-length b)) ∙ agrees-newest words (wordsOf b) (wordsFor f fs called gr) a 0 (omega arith))
@@ -212,14 +212,14 @@ module _ (ruleSet : RuleSet) (heap : Heap) (values : List ℕ) where
         step (no d) (inr i) rec = ap (factAt words) (line-tail f g fs d) ∙ rec i
 
     -- the facts of the lines called are the facts called
-    facts-back : {fs : List ℕ} (b : Built fs) → Agrees words (wordsOf b) → (called : List ℕ) → ((g : ℕ) → g ∈ called → g ∈ fs)
+    facts-back : {fs : List ℕ} (b : Built fs) → Agrees words (wordsOf b) → (called : List ℕ) → ((g : ℕ) → g among called → g among fs)
         → map (factAt words) (map (lineOf fs) called) ≡ called
     facts-back b a [] h = refl
     facts-back b a (g ∷ gs) h =
         ap₂ (λ (x : ℕ) (xs : List ℕ). x ∷ xs) (fact-there b a g (h g (List·Memᴰ·head refl))) (facts-back b a gs (λ x m. h x (List·Memᴰ·tail m)))
 
     -- the newest line
-    newest-taken : (f : ℕ) (fs called : List ℕ) (g : Ground ruleSet heap values called f) (b : Built fs) → ((h : ℕ) → h ∈ called → h ∈ fs)
+    newest-taken : (f : ℕ) (fs called : List ℕ) (g : Ground ruleSet heap values called f) (b : Built fs) → ((h : ℕ) → h among called → h among fs)
         → Agrees words (wordsOf b ++ wordsFor f fs called g) → LineHolds ruleSet heap values words (suc (length fs)) (map (lineOf fs) called)
     unfolding wordsFor
     newest-taken f fs called g b k a =
@@ -258,17 +258,17 @@ module _ (ruleSet : RuleSet) (heap : Heap) (values : List ℕ) where
     pub line : ℕ
     pub later : lineOf fs g < line
     pub within : line ≤ length fs
-    pub calls : lineOf fs g ∈ callsOf b line
+    pub calls : lineOf fs g among callsOf b line
 
   called-line : {fs : List ℕ} (b : Built fs) (g : ℕ) → CalledIn b g → CalledLine fs b g
   unfolding callsOf
   called-line Built.none g c = absurd c
   called-line (Built.more {f = f} {fs = fs} called gr k n b) g c = step c (called-line b g)
     where
-      other : g ∈ fs → g ≢ f
+      other : g among fs → g ≢ f
       other m e = n (Memᴰ·cast (sym e) m)
 
-      step : (g ∈ called) ⊎ CalledIn b g → (CalledIn b g → CalledLine fs b g) → CalledLine (f ∷ fs) (Built.more {f = f} {fs = fs} called gr k n b) g
+      step : (g among called) ⊎ CalledIn b g → (CalledIn b g → CalledLine fs b g) → CalledLine (f ∷ fs) (Built.more {f = f} {fs = fs} called gr k n b) g
       step (inl m) rec = record {
         line = suc (length fs);
         later = rw (line-tail f g fs (other (k g m))) (omega (arith, line-bounds fs g (k g m) .1));
@@ -286,7 +286,7 @@ module _ (ruleSet : RuleSet) (heap : Heap) (values : List ℕ) where
           }
 
   -- what is built holds
-  built-holds : {fs : List ℕ} → Built fs → (g : ℕ) → g ∈ fs → Holds ruleSet heap values g
+  built-holds : {fs : List ℕ} → Built fs → (g : ℕ) → g among fs → Holds ruleSet heap values g
   built-holds Built.none g m = absurd (List·Memᴰ·not-nil m)
   built-holds (Built.more {f = f} called gr k n b) g m =
       ⊎-elim
@@ -294,16 +294,16 @@ module _ (ruleSet : RuleSet) (heap : Heap) (values : List ℕ) where
       (built-holds b g) (List·Memᴰ·cases-cons m)
 
   -- where one fact is needed, it is the newest
-  needed-first : (root : ℕ) (fs : List ℕ) (b : Built fs) → root ∈ fs → ((g : ℕ) → g ∈ fs → (g ∈ root ∷ []) ⊎ CalledIn b g) → lineOf fs root ≡ length fs
+  needed-first : (root : ℕ) (fs : List ℕ) (b : Built fs) → root among fs → ((g : ℕ) → g among fs → (g among root ∷ []) ⊎ CalledIn b g) → lineOf fs root ≡ length fs
   needed-first root [] b m used = absurd (List·Memᴰ·not-nil m)
   needed-first root (f ∷ fs) b m used = ⊎-elim same older (used f (List·Memᴰ·head refl))
     where
-      same : f ∈ root ∷ [] → lineOf (f ∷ fs) root ≡ length (f ∷ fs)
+      same : f among root ∷ [] → lineOf (f ∷ fs) root ≡ length (f ∷ fs)
       same i =
           let e : root ≡ f = ⊎-elim sym (λ j. absurd (List·Memᴰ·not-nil j)) (List·Memᴰ·cases-cons i) in
           ap (lineOf (f ∷ fs)) e ∙ line-head f fs
 
-      apart : Distinct (f ∷ fs) → f ∈ fs → ⊥
+      apart : Distinct (f ∷ fs) → f among fs → ⊥
       apart (Distinct.next n d) i = n i
 
       older : CalledIn b f → lineOf (f ∷ fs) root ≡ length (f ∷ fs)
@@ -317,15 +317,15 @@ module _ (ruleSet : RuleSet) (heap : Heap) (p : ℕ) (query : List ℕ) where
   BuiltHere = Built ruleSet heap (domain ruleSet heap query)
 
   trimmed-of : (table : List ℕ) → Complete ruleSet heap (domain ruleSet heap query) table → length table ≤ 65535
-      → (fs : List ℕ) (b : BuiltHere fs) → root ∈ fs
-      → ((g : ℕ) → g ∈ fs → (g ∈ root ∷ []) ⊎ CalledIn ruleSet heap (domain ruleSet heap query) b g)
+      → (fs : List ℕ) (b : BuiltHere fs) → root among fs
+      → ((g : ℕ) → g among fs → (g among root ∷ []) ⊎ CalledIn ruleSet heap (domain ruleSet heap query) b g)
       → Trimmed ruleSet heap (domain ruleSet heap query) p query (wholeOf heap) (wordsOf ruleSet heap (domain ruleSet heap query) b)
   trimmed-of table complete small fs b m used =
       let values : List ℕ = domain ruleSet heap query in
       let words : List ℕ = wordsOf ruleSet heap values b in
       let first : lineOf ruleSet heap values fs root ≡ length fs = needed-first ruleSet heap values root fs b m used in
-      let there : (g : ℕ) → g ∈ fs → factAt words (lineOf ruleSet heap values fs g) ≡ g = fact-there ruleSet heap values words b (λ i h. refl) in
-      let facts : (k : ℕ) → 1 ≤ k → k ≤ length fs → (g : ℕ) × (g ∈ fs) × (lineOf ruleSet heap values fs g ≡ k) =
+      let there : (g : ℕ) → g among fs → factAt words (lineOf ruleSet heap values fs g) ≡ g = fact-there ruleSet heap values words b (λ i h. refl) in
+      let facts : (k : ℕ) → 1 ≤ k → k ≤ length fs → (g : ℕ) × (g among fs) × (lineOf ruleSet heap values fs g ≡ k) =
       line-fact ruleSet heap values fs (built-distinct ruleSet heap values b) in
       let short : length fs ≤ length table =
       holding-counted ruleSet heap values complete fs (built-distinct ruleSet heap values b) (built-holds ruleSet heap values b) in

@@ -9,7 +9,7 @@ use native.Mathlib.Omega.{arith}
 use lib.ListN.{length, getD}
 use lib.Dec.{eqb, leb, ltb}
 use borrow.Author.Tests.{eqb-true, leb-true, ltb-true}
-use Rattle.semantics.specs.Lists.{_∈_, digits}
+use Rattle.semantics.specs.Lists.{_among_, digits}
 use Rattle.semantics.specs.RuleSet.{Term, var, fixed, Kind, Pure, PointsTo, Call, Rule, RuleSet, InScope, WellFormed, WellFormedRule}
 use Rattle.semantics.specs.Heap.{Record, Heap, Above, WellFormedHeap, heapValues}
 use Rattle.semantics.specs.Reader.{Got, got, fault, Reader, onward, _>>=_, give, ensure, byte, times, counted, word, Result, accepted, refused, all, andThen}
@@ -21,7 +21,7 @@ abbrev pub Number : ℕ → Type 0
 Number n = (1 ≤ n) × (n ≤ 9)
 
 abbrev Each : {A : Type 0} → (A → Type 0) → List A → Type 0
-Each {A} P xs = (a : A) → a ∈ xs → P a
+Each {A} P xs = (a : A) → a among xs → P a
 
 each-none : {A : Type 0} (P : A → Type 0) → Each P []
 each-none P a m = absurd (List·Memᴰ·not-nil m)
@@ -361,8 +361,8 @@ Value v = v < 4294967296
 byte-known : Known Byte Value
 byte-known = record { word-known = λ bs e h. omega (arith, digits-below 256 4 bs (omega arith) (omega arith) h) }
 
-pub ladder-values : (b s q : List ℕ) → ((x : ℕ) → x ∈ b → x < 256) → ((x : ℕ) → x ∈ s → x < 256) → ((x : ℕ) → x ∈ q → x < 256) → (i : Input) → ladder b s q ≡ accepted i
-    → ((v : ℕ) → v ∈ heapValues (i .heap) → v < 4294967296) × ((v : ℕ) → v ∈ i .values → v < 4294967296)
+pub ladder-values : (b s q : List ℕ) → ((x : ℕ) → x among b → x < 256) → ((x : ℕ) → x among s → x < 256) → ((x : ℕ) → x among q → x < 256) → (i : Input) → ladder b s q ≡ accepted i
+    → ((v : ℕ) → v among heapValues (i .heap) → v < 4294967296) × ((v : ℕ) → v among i .values → v < 4294967296)
 ladder-values b s q eb es eq i e =
     let h : LadderRead Value i = rw e at (ladder-yields Byte Value byte-known b s q eb es eq) in
     (h .heap-values, h .query-values)

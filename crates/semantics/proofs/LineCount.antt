@@ -9,7 +9,7 @@ use native.Mathlib.Omega.{arith}
 use native.Mathlib.Decide.{ℕ-discrete}
 use lib.Dec.{eqb}
 use borrow.Author.Tests.{eq-eqb, ne-eqb}
-use Rattle.semantics.specs.Lists.{_∈_, member}
+use Rattle.semantics.specs.Lists.{_among_, member}
 use Rattle.semantics.specs.RuleSet.{RuleSet}
 use Rattle.semantics.specs.Heap.{Heap, wholeOf}
 use Rattle.semantics.specs.Domain.{domain}
@@ -50,46 +50,46 @@ exactly all (suc n) need passed =
     (every (λ (f : ℕ). every (λ (called : List ℕ).
     elim (avoids called (f ∷ passed)) [ true ↦ exactly all n (leave f need ++ called) (f ∷ passed) | false ↦ true ]) (ways all f)) need)
 
-avoids-in : (gs passed : List ℕ) → ((g : ℕ) → g ∈ gs → ¬ (g ∈ passed)) → avoids gs passed ≡ true
+avoids-in : (gs passed : List ℕ) → ((g : ℕ) → g among gs → ¬ (g among passed)) → avoids gs passed ≡ true
 unfolding avoids
 avoids-in [] passed h = refl
 avoids-in (g ∷ gs) passed h = rw (member-false g passed (h g (List·Memᴰ·head refl)), avoids) (avoids-in gs passed (λ x m. h x (List·Memᴰ·tail m)))
 
-pub leave-in : (f : ℕ) (gs : List ℕ) (h : ℕ) → h ∈ gs → f ≢ h → h ∈ leave f gs
+pub leave-in : (f : ℕ) (gs : List ℕ) (h : ℕ) → h among gs → f ≢ h → h among leave f gs
 unfolding leave
 leave-in f [] h m n = m
 leave-in f (g ∷ gs) h m n = step (ℕ-discrete f g) (List·Memᴰ·cases-cons m) (λ k. leave-in f gs h k n)
   where
-    step : Dec (f ≡ g) → (h ≡ g) ⊎ (h ∈ gs) → (h ∈ gs → h ∈ leave f gs) → h ∈ leave f (g ∷ gs)
+    step : Dec (f ≡ g) → (h ≡ g) ⊎ (h among gs) → (h among gs → h among leave f gs) → h among leave f (g ∷ gs)
     step (yes e) (inl q) rec = absurd (n (e ∙ sym q))
     step (yes e) (inr k) rec = rw (eq-eqb f g e, leave) (rec k)
     step (no d) (inl q) rec = rw (ne-eqb f g d, leave) (List·Memᴰ·head q)
     step (no d) (inr k) rec = rw (ne-eqb f g d, leave) (List·Memᴰ·tail (rec k))
 
-pub leave-out : (f : ℕ) (gs : List ℕ) (h : ℕ) → h ∈ leave f gs → (h ∈ gs) × (f ≢ h)
+pub leave-out : (f : ℕ) (gs : List ℕ) (h : ℕ) → h among leave f gs → (h among gs) × (f ≢ h)
 unfolding leave
 leave-out f [] h m = absurd (List·Memᴰ·not-nil m)
 leave-out f (g ∷ gs) h m = step (ℕ-discrete f g) m (leave-out f gs h)
   where
-    more : (h ∈ gs) × (f ≢ h) → (h ∈ g ∷ gs) × (f ≢ h)
+    more : (h among gs) × (f ≢ h) → (h among g ∷ gs) × (f ≢ h)
     more p = (List·Memᴰ·tail (p .0), p .1)
 
-    step : Dec (f ≡ g) → h ∈ leave f (g ∷ gs) → (h ∈ leave f gs → (h ∈ gs) × (f ≢ h)) → (h ∈ g ∷ gs) × (f ≢ h)
+    step : Dec (f ≡ g) → h among leave f (g ∷ gs) → (h among leave f gs → (h among gs) × (f ≢ h)) → (h among g ∷ gs) × (f ≢ h)
     step (yes e) m rec = more (rec (rw (eq-eqb f g e, leave) at m))
     step (no d) m rec = ⊎-elim (λ q. (List·Memᴰ·head q, λ e. d (e ∙ q))) (λ k. more (rec k)) (List·Memᴰ·cases-cons (rw (ne-eqb f g d, leave) at m))
 
-ways-in : (all : List Step) (f : ℕ) (called : List ℕ) → record { conclusion = f; called = called } ∈ all → called ∈ ways all f
+ways-in : (all : List Step) (f : ℕ) (called : List ℕ) → record { conclusion = f; called = called } among all → called among ways all f
 unfolding ways
 ways-in all f called m =
     flat-in (λ (s : Step). when (eqb (s .conclusion) f) (s .called)) all (record { conclusion = f; called = called }) m
     (when-in (eqb f f) called (eq-eqb f f refl))
 
-empty-out : (gs : List ℕ) → isEmpty gs ≡ true → (g : ℕ) → ¬ (g ∈ gs)
+empty-out : (gs : List ℕ) → isEmpty gs ≡ true → (g : ℕ) → ¬ (g among gs)
 unfolding isEmpty
 empty-out [] e g m = List·Memᴰ·not-nil m
 empty-out (h ∷ gs) e g m = false≢true e
 
-some-out : (gs : List ℕ) → isSome gs ≡ true → (g : ℕ) × (g ∈ gs)
+some-out : (gs : List ℕ) → isSome gs ≡ true → (g : ℕ) × (g among gs)
 unfolding isSome
 some-out [] e = absurd (false≢true e)
 some-out (h ∷ gs) e = (h, List·Memᴰ·head refl)
@@ -98,7 +98,7 @@ module _ (ruleSet : RuleSet) (heap : Heap) (p : ℕ) (query words : List ℕ) (u
     (table : List ℕ) (complete : Complete ruleSet heap (domain ruleSet heap query) table) where
   -- every line's fact follows, from facts of the table, in one of the ways that were worked out
   line-way : (k : ℕ) → 1 ≤ k → k ≤ u .taken .count
-      → map (factAt words) (u .taken .calls k) ∈ ways (steps ruleSet heap (domain ruleSet heap query) table) (factAt words k)
+      → map (factAt words) (u .taken .calls k) among ways (steps ruleSet heap (domain ruleSet heap query) table) (factAt words k)
   line-way k low high =
       let t = u .taken .each k low high in
       ways-in (steps ruleSet heap (domain ruleSet heap query) table) (factAt words k) (map (factAt words) (u .taken .calls k))
@@ -111,10 +111,10 @@ module _ (ruleSet : RuleSet) (heap : Heap) (p : ℕ) (query words : List ℕ) (u
   -- the lines above k are passed
   record Passed (k : ℕ) (need passed : List ℕ) : Type 0 where
     pub within : k ≤ u .taken .count
-    pub next : 1 ≤ k → factAt words k ∈ need
-    pub lower : (g : ℕ) → g ∈ need → (l : ℕ) × (1 ≤ l) × (l ≤ k) × (factAt words l ≡ g)
-    pub called : (j : ℕ) → k < j → j ≤ u .taken .count → (l : ℕ) → l ∈ u .taken .calls j → 1 ≤ l → l ≤ k → factAt words l ∈ need
-    pub upper : (g : ℕ) → g ∈ passed → (l : ℕ) × (k < l) × (l ≤ u .taken .count) × (factAt words l ≡ g)
+    pub next : 1 ≤ k → factAt words k among need
+    pub lower : (g : ℕ) → g among need → (l : ℕ) × (1 ≤ l) × (l ≤ k) × (factAt words l ≡ g)
+    pub called : (j : ℕ) → k < j → j ≤ u .taken .count → (l : ℕ) → l among u .taken .calls j → 1 ≤ l → l ≤ k → factAt words l among need
+    pub upper : (g : ℕ) → g among passed → (l : ℕ) × (k < l) × (l ≤ u .taken .count) × (factAt words l ≡ g)
 
   pass : (k : ℕ) (need passed : List ℕ) → Passed (suc k) need passed
       → Passed k (leave (factAt words (suc k)) need ++ map (factAt words) (u .taken .calls (suc k))) (factAt words (suc k) ∷ passed)
@@ -126,17 +126,17 @@ module _ (ruleSet : RuleSet) (heap : Heap) (p : ℕ) (query words : List ℕ) (u
     upper = λ g m. ⊎-elim (λ e. (suc k, omega arith, s .within, sym e)) (λ i. let (l, above, high, e) = s .upper g i in (l, omega arith, high, e)) (List·Memᴰ·cases-cons m);
   }
     where
-      still : (j : ℕ) → k < j → j ≤ u .taken .count → (l : ℕ) → l ∈ u .taken .calls j → 1 ≤ l → l ≤ k
-          → factAt words l ∈ leave (factAt words (suc k)) need ++ map (factAt words) (u .taken .calls (suc k))
+      still : (j : ℕ) → k < j → j ≤ u .taken .count → (l : ℕ) → l among u .taken .calls j → 1 ≤ l → l ≤ k
+          → factAt words l among leave (factAt words (suc k)) need ++ map (factAt words) (u .taken .calls (suc k))
       still j above high l m low below = by (ℕ-discrete j (suc k))
         where
-          by : Dec (j ≡ suc k) → factAt words l ∈ leave (factAt words (suc k)) need ++ map (factAt words) (u .taken .calls (suc k))
+          by : Dec (j ≡ suc k) → factAt words l among leave (factAt words (suc k)) need ++ map (factAt words) (u .taken .calls (suc k))
           by (yes e) = Memᴰ·append-right (leave (factAt words (suc k)) need) (Memᴰ·map (factAt words) (rw e at m))
           by (no d) = Memᴰ·append-left (map (factAt words) (u .taken .calls (suc k)))
               (leave-in (factAt words (suc k)) need (factAt words l) (s .called j (omega arith) high l m low (omega arith))
               (λ q. u .once l (suc k) low (omega arith) (s .within) (sym q)))
 
-      old : (g : ℕ) → g ∈ leave (factAt words (suc k)) need → (l : ℕ) × (1 ≤ l) × (l ≤ k) × (factAt words l ≡ g)
+      old : (g : ℕ) → g among leave (factAt words (suc k)) need → (l : ℕ) × (1 ≤ l) × (l ≤ k) × (factAt words l ≡ g)
       old g m =
           let (i, d) = leave-out (factAt words (suc k)) need g m in
           let (l, low, high, e) = s .lower g i in
@@ -149,7 +149,7 @@ module _ (ruleSet : RuleSet) (heap : Heap) (p : ℕ) (query words : List ℕ) (u
               by (yes e) = absurd (n e)
               by (no d) = omega arith
 
-      new : (g : ℕ) → g ∈ map (factAt words) (u .taken .calls (suc k)) → (l : ℕ) × (1 ≤ l) × (l ≤ k) × (factAt words l ≡ g)
+      new : (g : ℕ) → g among map (factAt words) (u .taken .calls (suc k)) → (l : ℕ) × (1 ≤ l) × (l ≤ k) × (factAt words l ≡ g)
       new g m =
           let (l, i, e) = Memᴰ·of-map (factAt words) (u .taken .calls (suc k)) m in
           let (a, b) = u .taken .each (suc k) (omega arith) (s .within) .earlier l i in
@@ -157,7 +157,7 @@ module _ (ruleSet : RuleSet) (heap : Heap) (p : ℕ) (query words : List ℕ) (u
 
   -- the calls of a line avoid the lines passed
   calls-avoid : (k : ℕ) (passed : List ℕ) → k ≤ u .taken .count → 1 ≤ k
-      → ((g : ℕ) → g ∈ passed → (l : ℕ) × (k ≤ l) × (l ≤ u .taken .count) × (factAt words l ≡ g))
+      → ((g : ℕ) → g among passed → (l : ℕ) × (k ≤ l) × (l ≤ u .taken .count) × (factAt words l ≡ g))
       → avoids (map (factAt words) (u .taken .calls k)) passed ≡ true
   calls-avoid k passed high low upper =
       avoids-in (map (factAt words) (u .taken .calls k)) passed (λ g m i.

@@ -5,7 +5,7 @@ use mathlib.Core.List.{List, [], _∷_, _++_, map, List·Memᴰ·head, List·Mem
 use Prim.Native.Nat.{ℕ, zero, suc, _≤_, _<_}
 use native.Mathlib.Omega.{arith}
 use lib.ListN.{length}
-use Rattle.semantics.specs.Lists.{_∈_, Distinct}
+use Rattle.semantics.specs.Lists.{_among_, Distinct}
 use Rattle.semantics.specs.RuleSet.{Call, RuleSet, arity, variables}
 use Rattle.semantics.specs.Heap.{Heap, wholeOf, Joins}
 use Rattle.semantics.specs.Formats.{Valid}
@@ -30,10 +30,10 @@ module _ (ruleSet : RuleSet) (heap : Heap) (domain words : List ℕ) (limits : L
     pub trees : Trees ruleSet heap domain limits σ calls whole
     pub opens : OpensAll ruleSet heap domain words lines (trees .forest)
 
-  module _ (n : ℕ) (σ : List ℕ) (long : length σ ≡ n) (keeps : (v : ℕ) → v ∈ σ → v ∈ domain) where
+  module _ (n : ℕ) (σ : List ℕ) (long : length σ ≡ n) (keeps : (v : ℕ) → v among σ → v among domain) where
     opened-all : {calls : List Call} {whole : ℕ} (lines : List ℕ) → Called domain σ calls (map (factAt words) lines)
-        → ((c : Call) → c ∈ calls → ScopedCall ruleSet heap domain limits n c)
-        → ((l : ℕ) → l ∈ lines → Stands ruleSet domain (Opened ruleSet heap domain words l) (factAt words l))
+        → ((c : Call) → c among calls → ScopedCall ruleSet heap domain limits n c)
+        → ((l : ℕ) → l among lines → Stands ruleSet domain (Opened ruleSet heap domain words l) (factAt words l))
         → Joins (map partOf (map (factAt words) lines)) whole → OpenedTrees σ lines calls whole
     opened-all [] Called.none scope stands Joins.none = record { trees = record { taken = []; forest = Forest.none; once = Distinct.none; set = refl }; opens = refl }
     opened-all (l ∷ ls) (Called.next {call = call} {calls = calls} e rest) scope stands (Joins.next {rest = m} {whole = whole} a j w) =
@@ -48,7 +48,7 @@ module _ (ruleSet : RuleSet) (heap : Heap) (domain words : List ℕ) (limits : L
 
   -- a line that is taken opens, if the lines that it calls do
   line-opened : (k : ℕ) (lines : List ℕ) (t : LineHolds ruleSet heap domain words k lines)
-      → ((l : ℕ) → l ∈ lines → Stands ruleSet domain (Opened ruleSet heap domain words l) (factAt words l))
+      → ((l : ℕ) → l among lines → Stands ruleSet domain (Opened ruleSet heap domain words l) (factAt words l))
       → Stands ruleSet domain (Opened ruleSet heap domain words k) (factAt words k)
   line-opened k lines t stands =
       let g = t .ground in
@@ -72,7 +72,7 @@ module _ (ruleSet : RuleSet) (heap : Heap) (domain words : List ℕ) (limits : L
 
 -- The last line's tree is of the values and exactly the subheap that the certificate is for.
 pub taken-opens : (ruleSet : RuleSet) (heap : Heap) (query : List ℕ) → Valid ruleSet heap query
-    → (p : ℕ) (vs : List ℕ) (part : ℕ) (words : List ℕ) → length vs ≡ arity ruleSet p → ((v : ℕ) → v ∈ vs → v ∈ domain ruleSet heap query) → part < 65536
+    → (p : ℕ) (vs : List ℕ) (part : ℕ) (words : List ℕ) → length vs ≡ arity ruleSet p → ((v : ℕ) → v among vs → v among domain ruleSet heap query) → part < 65536
     → (t : Certificate ruleSet heap (domain ruleSet heap query) p vs part words) → Opened ruleSet heap (domain ruleSet heap query) words (t .count) p vs part
 taken-opens ruleSet heap query valid p vs part words counted keeps small t =
     let values : List ℕ = domain ruleSet heap query in

@@ -7,7 +7,7 @@ use native.Mathlib.Omega.{arith}
 use native.Mathlib.Nat.{add-zero}
 use lib.ListN.{length}
 use lib.Bits.{bitAnd}
-use Rattle.semantics.specs.Lists.{_∈_, Distinct}
+use Rattle.semantics.specs.Lists.{_among_, Distinct}
 use Rattle.semantics.specs.RuleSet.{RuleSet, PointsTo, Call}
 use Rattle.semantics.specs.Heap.{Heap, setOf, Joins}
 use Rattle.semantics.specs.Tree.{Takes, Tree, Forest}
@@ -15,17 +15,17 @@ use Rattle.semantics.proofs.Bits.{apart-and, and-apart, distinct-apart,
 
 -- every record taken is one of the heap
 pub takes-below : {heap : Heap} {σ : List ℕ} {atoms : List PointsTo} {indices : List ℕ} → Takes heap σ atoms indices
-    → (i : ℕ) → i ∈ indices → i < length heap
+    → (i : ℕ) → i among indices → i < length heap
 takes-below Takes.none i m = absurd (List·Memᴰ·not-nil m)
 takes-below {heap} (Takes.atom {i = k} h e rest) i m =
     ⊎-elim (λ (q : i ≡ k). rw q h) (takes-below rest i) (List·Memᴰ·cases-cons m)
 
 mutual
-  pub tree-below : {ruleSet : RuleSet} {heap : Heap} {p : ℕ} {vs taken : List ℕ} → Tree ruleSet heap p vs taken → (i : ℕ) → i ∈ taken → i < length heap
+  pub tree-below : {ruleSet : RuleSet} {heap : Heap} {p : ℕ} {vs taken : List ℕ} → Tree ruleSet heap p vs taken → (i : ℕ) → i among taken → i < length heap
   tree-below (Tree.node rule bound is below p a forest e) i m =
       ⊎-elim (takes-below (a .takes) i) (λ k. forest-below forest i k) (List·Memᴰ·append-cases is (rw e at m))
 
-  pub forest-below : {ruleSet : RuleSet} {heap : Heap} {σ : List ℕ} {calls : List Call} {taken : List ℕ} → Forest ruleSet heap σ calls taken → (i : ℕ) → i ∈ taken → i < length heap
+  pub forest-below : {ruleSet : RuleSet} {heap : Heap} {σ : List ℕ} {calls : List Call} {taken : List ℕ} → Forest ruleSet heap σ calls taken → (i : ℕ) → i among taken → i < length heap
   forest-below Forest.none i m = absurd (List·Memᴰ·not-nil m)
   forest-below (Forest.next here rest t forest e) i m =
       ⊎-elim (λ k. tree-below t i k) (λ k. forest-below forest i k) (List·Memᴰ·append-cases here (rw e at m))
@@ -41,7 +41,7 @@ joins-atoms (i ∷ is) below parts (Distinct.next n d) j =
     Joins.next (rw (add-zero (2 ^ i)) at (apart-and (i ∷ []) (is ++ below) (Distinct.next List·Memᴰ·not-nil Distinct.none) d single))
     (joins-atoms is below parts d j) refl
   where
-    single : (k : ℕ) → k ∈ i ∷ [] → ¬ (k ∈ is ++ below)
+    single : (k : ℕ) → k among i ∷ [] → ¬ (k among is ++ below)
     single k m h = ⊎-elim (λ (e : k ≡ i). n (Memᴰ·cast (sym e) h)) (λ m′. List·Memᴰ·not-nil m′) (List·Memᴰ·cases-cons m)
 
 pub joins-tree : (part : ℕ) (here rest parts : List ℕ) → part ≡ setOf here → Distinct (here ++ rest) → Joins parts (setOf rest)

@@ -7,7 +7,7 @@ use Prim.Native.Nat.{ℕ, _-_}
 use lib.ListN.{length, getD}
 use lib.Dec.{eqb, leb}
 use borrow.Author.Tests.{eqb-true, leb-true}
-use Rattle.semantics.specs.Lists.{_∈_, member, digits, digitsOf}
+use Rattle.semantics.specs.Lists.{_among_, member, digits, digitsOf}
 use Rattle.semantics.specs.Heap.{heapValues, wholeOf}
 use Rattle.semantics.specs.Reader.{Result, accepted, refused, times, counted, word}
 use Rattle.semantics.specs.Formats.{readRuleSet, readSnapshot, records, readQuery, Input, ladder, WellFormedInput}
@@ -77,7 +77,7 @@ unfolding testLast
 last-of [] table e = tt
 last-of (f ∷ fs) table e = eqb-true (getD table (length table - 1) 0) f e
 
-verdict-of : (b : Bool) (f : ℕ) (table : List ℕ) (A : Type 0) → (f ∈ table → A) → (A → f ∈ table) → member f table ≡ b → Verdict b A
+verdict-of : (b : Bool) (f : ℕ) (table : List ℕ) (A : Type 0) → (f among table → A) → (A → f among table) → member f table ≡ b → Verdict b A
 verdict-of true f table A to from e = to (member-out f table e)
 verdict-of false f table A to from e = λ a. false≢true (sym e ∙ member-true f table (from a))
 
@@ -123,7 +123,7 @@ unfolding digits digitsOf heapValues member times counted word readRuleSet readS
 rows-pass = refl
 
 -- Each starred row is true: verdict, facts, rounds, lines, and the last fact that the paper gives.
-pub rows-true : (row : Row) → row ∈ rows → RowTrue row
+pub rows-true : (row : Row) → row among rows → RowTrue row
 rows-true row m = passed row (every-out passes rows rows-pass row m)
 
 -- the faults, computed
@@ -139,7 +139,7 @@ unfolding digits times counted word readRuleSet readSnapshot records readQuery l
 faults-stop = refl
 
 -- Each fault is met, with its number.
-pub faults-true : (fault : Fault) → fault ∈ faults → ladder (fault .book) (fault .snapshot) (fault .question) ≡ refused (fault .refusal)
+pub faults-true : (fault : Fault) → fault among faults → ladder (fault .book) (fault .snapshot) (fault .question) ≡ refused (fault .refusal)
 unfolding stops isRefused
 faults-true fault m = by (ladder (fault .book) (fault .snapshot) (fault .question)) (every-out stops faults faults-stop fault m)
   where

@@ -9,7 +9,7 @@ use native.Mathlib.Decide.{ℕ-discrete}
 use lib.ListN.{length, getD, take, drop, length-append, length-map, length-take, length-drop, take-append-drop}
 use lib.Dec.{eqb, leb, ltb}
 use borrow.Author.Tests.{eq-eqb, eqb-true, leb-true, ltb-true, lt-ltb, le-leb}
-use Rattle.semantics.specs.Lists.{_∈_, Ascending, digits, digitsOf}
+use Rattle.semantics.specs.Lists.{_among_, Ascending, digits, digitsOf}
 use Rattle.semantics.specs.RuleSet.{Call, Rule, RuleSet, arity, variables, blankRule}
 use Rattle.semantics.specs.Heap.{Heap}
 use Rattle.semantics.specs.Tree.{valuesOf}
@@ -23,7 +23,7 @@ use Rattle.semantics.proofs.Evaluator.{meetsAll, takings, joined}
 use Rattle.semantics.proofs.Evaluation.{every-in, every-out, both-in, both-out, flat-in, flat-out, meetsAll-in, meetsAll-out, takings-in, takings-out, joined-in, joined-out}
 use Rattle.semantics.proofs.CertificateTest.{ruleOf, positionsOf, valuesAt, callsOf, callsTest, conclusions, earlierTest, positionTest, lineTest, takesLine, takesLines, takes}
 
-getD-member : (rules : List Rule) (i : ℕ) → i < length rules → getD rules i blankRule ∈ rules
+getD-member : (rules : List Rule) (i : ℕ) → i < length rules → getD rules i blankRule among rules
 getD-member [] i h = absurd (omega arith)
 getD-member (r ∷ rules) zero h = List·Memᴰ·head refl
 getD-member (r ∷ rules) (suc i) h = List·Memᴰ·tail (getD-member rules i (omega arith))
@@ -62,12 +62,12 @@ module _ (ruleSet : RuleSet) (heap : Heap) (domain words : List ℕ) where
   record Passes (k number : ℕ) (rule : Rule) (positions arguments bound lines : List ℕ) : Type 0 where
     pub in-rule-set : number < length (ruleSet .rules)
     pub in-word : positionsAt words k ≡ digits 256 positions
-    pub domain-positions : (p : ℕ) → p ∈ positions → p < length domain
+    pub domain-positions : (p : ℕ) → p among positions → p < length domain
     pub names : ruleAt words k ≡ number + 256 * digits 65536 lines
-    pub earlier : (l : ℕ) → l ∈ lines → (1 ≤ l) × (l < k)
+    pub earlier : (l : ℕ) → l among lines → (1 ≤ l) × (l < k)
     pub meets : meetsAll (arguments ++ bound) (rule .pures) ≡ true
     pub calls : Called domain (arguments ++ bound) (rule .calls) (map (factAt words) lines)
-    pub conclusion : factAt words k ∈ conclusions ruleSet heap domain words rule arguments bound (map (factAt words) lines)
+    pub conclusion : factAt words k among conclusions ruleSet heap domain words rule arguments bound (map (factAt words) lines)
 
   passes-out : (k number : ℕ) (rule : Rule) (positions arguments bound lines : List ℕ) → lineTest ruleSet heap domain words k number rule positions arguments bound lines ≡ true
       → Passes k number rule positions arguments bound lines
@@ -162,7 +162,7 @@ module _ (ruleSet : RuleSet) (heap : Heap) (domain words : List ℕ) where
   test-equal k n n′ r r′ ps ps′ as₁ as₂ bs bs′ ls ls′ en er ep ea eb el h = rw (en, er, ep, ea, eb, el) h
 
   module _ (few : length (ruleSet .rules) ≤ 256) (short : length domain ≤ 128) where
-    conclusion-in : (lines : List ℕ) (f : ℕ) (g : Ground ruleSet heap domain (map (factAt words) lines) f) → f ∈ conclusions ruleSet heap domain words (g .rule) (g .arguments) (g .bound) (map (factAt words) lines)
+    conclusion-in : (lines : List ℕ) (f : ℕ) (g : Ground ruleSet heap domain (map (factAt words) lines) f) → f among conclusions ruleSet heap domain words (g .rule) (g .arguments) (g .bound) (map (factAt words) lines)
     unfolding conclusions
     conclusion-in lines f g =
         let called : List ℕ = map (factAt words) lines in
@@ -182,7 +182,7 @@ module _ (ruleSet : RuleSet) (heap : Heap) (domain words : List ℕ) where
         let high-part : ruleAt words k / 256 ≡ digits 65536 lines = omega (arith, w .names, w .in-rule-set) in
         let rule : ruleOf ruleSet heap domain words k ≡ g .rule = ap (λ (i : ℕ). getD (ruleSet .rules) i blankRule) number ∙ w .is-rule in
         let long : length vs ≡ variables ruleSet (g .rule) = length-append (g .arguments) (g .bound) ∙ ap₂ (λ (x y : ℕ). x + y) (a .arguments-counted) (a .bound-counted) in
-        let small : (p : ℕ) → p ∈ map (position domain) vs → p < length domain = λ p m. let (v, mv, e) = Memᴰ·of-map (position domain) vs m in omega (arith, position-below domain v (g .keeps v mv)) in
+        let small : (p : ℕ) → p among map (position domain) vs → p < length domain = λ p m. let (v, mv, e) = Memᴰ·of-map (position domain) vs m in omega (arith, position-below domain v (g .keeps v mv)) in
         let positions : positionsOf ruleSet heap domain words k ≡ map (position domain) vs =
         ap₂ (λ (r : Rule) (x : ℕ). digitsOf 256 (variables ruleSet r) x) rule (w .positions)
         ∙ ap (λ (n : ℕ). digitsOf 256 n (digits 256 (map (position domain) vs))) (sym (length-map vs (position domain) ∙ long))

@@ -6,7 +6,7 @@ use mathlib.Core.List.{List, map}
 use Prim.Native.Nat.{ℕ, _<_}
 use native.Mathlib.Omega.{arith}
 use lib.ListN.{length, length-map}
-use Rattle.semantics.specs.Lists.{_∈_}
+use Rattle.semantics.specs.Lists.{_among_}
 use Rattle.semantics.specs.RuleSet.{RuleSet, arity}
 use Rattle.semantics.specs.Heap.{Heap, wholeOf}
 use Rattle.semantics.specs.Formats.{Valid}
@@ -48,20 +48,20 @@ module _ (ruleSet : RuleSet) (heap : Heap) (query : List ℕ) (valid : Valid rul
   limits = setting .limits
 
   -- Completeness: what a tree by hand shows of good values stands in every complete table.
-  pub completeness : (p : ℕ) (vs : List ℕ) (part : ℕ) → ((v : ℕ) → v ∈ vs → v ∈ good ruleSet heap query) → ByHand ruleSet heap p vs part
+  pub completeness : (p : ℕ) (vs : List ℕ) (part : ℕ) → ((v : ℕ) → v among vs → v among good ruleSet heap query) → ByHand ruleSet heap p vs part
       → {r : ℕ} {xs : List ℕ} → After ruleSet heap (domain ruleSet heap query) r xs → Complete ruleSet heap (domain ruleSet heap query) xs
-      → fact (domain ruleSet heap query) p vs part ∈ xs
+      → fact (domain ruleSet heap query) p vs part among xs
   completeness p vs part all-good h after complete =
       complete-has ruleSet heap (domain ruleSet heap query) complete (fact (domain ruleSet heap query) p vs part)
       (by-hand-holds ruleSet heap (good ruleSet heap query) (sparesOf ruleSet heap query) (domain ruleSet heap query) setting p vs part all-good h)
 
   -- Soundness: a fact of a table has a tree by hand, with its values and exactly its subheap.
-  pub soundness : {r : ℕ} {xs : List ℕ} → After ruleSet heap (domain ruleSet heap query) r xs → (f : ℕ) → f ∈ xs
+  pub soundness : {r : ℕ} {xs : List ℕ} → After ruleSet heap (domain ruleSet heap query) r xs → (f : ℕ) → f among xs
       → Sound ruleSet heap (domain ruleSet heap query) f
   soundness after f m = sound ruleSet heap (domain ruleSet heap query) limits f (table-holds ruleSet heap (domain ruleSet heap query) after f m)
 
   -- The same, read off the number: predicate, the domain at its positions, subheap.
-  pub soundness-read : {r : ℕ} {xs : List ℕ} → After ruleSet heap (domain ruleSet heap query) r xs → (f : ℕ) → f ∈ xs
+  pub soundness-read : {r : ℕ} {xs : List ℕ} → After ruleSet heap (domain ruleSet heap query) r xs → (f : ℕ) → f among xs
       → ByHand ruleSet heap (predicateOf f) (valuesAt (domain ruleSet heap query) (positionsOf (arity ruleSet (predicateOf f)) f)) (partOf f)
   soundness-read after f m =
       let values : List ℕ = domain ruleSet heap query in
@@ -78,19 +78,19 @@ module _ (ruleSet : RuleSet) (heap : Heap) (query : List ℕ) (valid : Valid rul
 
   -- The fact of values asked about stands in the complete table with a subheap exactly if a finished tree by hand takes that subheap.
   pub part-verdict : {r : ℕ} {xs : List ℕ} → After ruleSet heap (domain ruleSet heap query) r xs → Complete ruleSet heap (domain ruleSet heap query) xs
-      → (p : ℕ) (vs : List ℕ) → length vs ≡ arity ruleSet p → ((v : ℕ) → v ∈ vs → v ∈ query) → (part : ℕ) → part < 65536
-      → (fact (domain ruleSet heap query) p vs part ∈ xs) ↔ ByHand ruleSet heap p vs part
-  part-verdict after complete p vs counted among part small = (
+      → (p : ℕ) (vs : List ℕ) → length vs ≡ arity ruleSet p → ((v : ℕ) → v among vs → v among query) → (part : ℕ) → part < 65536
+      → (fact (domain ruleSet heap query) p vs part among xs) ↔ ByHand ruleSet heap p vs part
+  part-verdict after complete p vs counted belongs part small = (
     λ m. sound-fact ruleSet heap (domain ruleSet heap query) limits p vs part counted
-        (λ v k. good-is-domain ruleSet heap query v (query-good ruleSet heap query v (among v k))) small
+        (λ v k. good-is-domain ruleSet heap query v (query-good ruleSet heap query v (belongs v k))) small
         (table-holds ruleSet heap (domain ruleSet heap query) after (fact (domain ruleSet heap query) p vs part) m),
-    λ h. completeness p vs part (λ v k. query-good ruleSet heap query v (among v k)) h after complete,
+    λ h. completeness p vs part (λ v k. query-good ruleSet heap query v (belongs v k)) h after complete,
   )
 
   -- With every record: the verdict.
   pub verdict : (p : ℕ) → length query ≡ arity ruleSet p
       → {r : ℕ} {xs : List ℕ} → After ruleSet heap (domain ruleSet heap query) r xs → Complete ruleSet heap (domain ruleSet heap query) xs
-      → (fact (domain ruleSet heap query) p query (wholeOf heap) ∈ xs) ↔ Fits ruleSet heap p query
+      → (fact (domain ruleSet heap query) p query (wholeOf heap) among xs) ↔ Fits ruleSet heap p query
   verdict p counted after complete =
       let (to, from) = part-verdict after complete p query counted (λ v k. k) (wholeOf heap) (whole-below (length heap) 16 (valid .heap-formed .records-few)) in
       (λ m. whole-fits (to m), λ h. from (fits-whole h))

@@ -7,7 +7,7 @@ use mathlib.Core.Path.{_≡_}
 use mathlib.Core.Logic.{_≢_}
 use Prim.Native.Nat.{ℕ, _+_, _-_, _*_, _≤_, _<_}
 use lib.ListN.{length, getD}
-use Rattle.semantics.specs.Lists.{_∈_, Distinct, digits}
+use Rattle.semantics.specs.Lists.{_among_, Distinct, digits}
 use Rattle.semantics.specs.RuleSet.{Call, Rule, RuleSet, ruleOf}
 use Rattle.semantics.specs.Heap.{Heap, setOf}
 use Rattle.semantics.specs.Tree.{Tree, Forest}
@@ -35,7 +35,7 @@ pub record Written (ruleSet : RuleSet) (domain words : List ℕ) (k : ℕ) (rule
 -- Line k holds: it is a ground instance of its rule, so that head arguments, pure conditions, points-to atoms, called facts and the
 -- disjoint join are right, and what it calls are the facts of earlier lines.
 pub record LineHolds (ruleSet : RuleSet) (heap : Heap) (domain words : List ℕ) (k : ℕ) (lines : List ℕ) : Type 0 where
-  pub earlier : (l : ℕ) → l ∈ lines → (1 ≤ l) × (l < k)
+  pub earlier : (l : ℕ) → l among lines → (1 ≤ l) × (l < k)
   pub ground : Ground ruleSet heap domain (map (factAt words) lines) (factAt words k)
   pub written : Written ruleSet domain words k (ground .rule) (ground .arguments ++ ground .bound) lines
 
@@ -55,7 +55,7 @@ pub record Certificate (ruleSet : RuleSet) (heap : Heap) (domain : List ℕ) (pr
 pub record Trimmed (ruleSet : RuleSet) (heap : Heap) (domain : List ℕ) (predicate : ℕ) (values : List ℕ) (part : ℕ) (words : List ℕ) : Type 0 where
   pub taken : Certificate ruleSet heap domain predicate values part words
   pub once : (j k : ℕ) → 1 ≤ j → j < k → k ≤ taken .count → factAt words j ≢ factAt words k
-  pub used : (k : ℕ) → 1 ≤ k → k < taken .count → (j : ℕ) × (k < j) × (j ≤ taken .count) × (k ∈ taken .calls j)
+  pub used : (k : ℕ) → 1 ≤ k → k < taken .count → (j : ℕ) × (k < j) × (j ≤ taken .count) × (k among taken .calls j)
 
 -- The tree is line k opened: it starts with the line's fact, rule and values, and its branches are the lines that line k calls, each
 -- opened in turn; a line that is called twice has two branches.
@@ -63,7 +63,7 @@ module _ (ruleSet : RuleSet) (heap : Heap) (domain words : List ℕ) where
   abbrev mutual
     pub Opens : ℕ → {predicate : ℕ} {arguments taken : List ℕ} → Tree ruleSet heap predicate arguments taken → Type 0
     Opens k {predicate} {arguments} {taken} (Tree.node rule bound indices below e a forest t) =
-        (lines : List ℕ) × ((l : ℕ) → l ∈ lines → (1 ≤ l) × (l < k)) × Written ruleSet domain words k rule (arguments ++ bound) lines
+        (lines : List ℕ) × ((l : ℕ) → l among lines → (1 ≤ l) × (l < k)) × Written ruleSet domain words k rule (arguments ++ bound) lines
         × (factAt words k ≡ fact domain predicate arguments (setOf taken)) × OpensAll lines forest
 
     pub OpensAll : List ℕ → {σ : List ℕ} {calls : List Call} {taken : List ℕ} → Forest ruleSet heap σ calls taken → Type 0

@@ -3,7 +3,7 @@ use mathlib.Core.List.{List, [], _∷_, _++_}
 use mathlib.Core.Path.{_≡_}
 use Prim.Native.Nat.{ℕ, _+_, _-_, _*_, _≤_, _<_}
 use lib.ListN.{length, getD, take, drop}
-use Rattle.semantics.specs.Lists.{_∈_, digitsOf, zeros}
+use Rattle.semantics.specs.Lists.{_among_, digitsOf, zeros}
 use Rattle.semantics.specs.RuleSet.{RuleSet}
 use Rattle.semantics.specs.Heap.{Heap, wholeOf}
 use Rattle.semantics.specs.Reader.{accepted, refused}
@@ -132,7 +132,7 @@ bytesOf (w ∷ words) = digitsOf 256 8 w ++ bytesOf words
 -- Bytes that this entry takes: the words of a certificate, and at most 24,576 bytes of them.
 pub record DeskTakes (i : Input) (bytes : List ℕ) : Type 0 where
   pub words : List ℕ
-  pub small : (w : ℕ) → w ∈ words → w < 18446744073709551616
+  pub small : (w : ℕ) → w among words → w < 18446744073709551616
   pub are-bytes : bytes ≡ bytesOf words
   pub most : length bytes ≤ 24576
   pub taken : CertificateInput i words

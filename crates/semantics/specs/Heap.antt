@@ -4,7 +4,7 @@ use mathlib.Core.Path.{_≡_}
 use Prim.Native.Nat.{ℕ, _+_, _-_, _≤_, _<_, _^_}
 use lib.ListN.{length}
 use lib.Bits.{bitAnd}
-use Rattle.semantics.specs.Lists.{_∈_}
+use Rattle.semantics.specs.Lists.{_among_}
 
 pub record Record : Type 0 where
   pub address : ℕ
@@ -26,7 +26,7 @@ Ordered heap = Above 0 heap
 pub record WellFormedHeap (heap : Heap) : Type 0 where
   pub records-few : length heap ≤ 16
   pub ordered : Ordered heap
-  pub fields-few : (here : Record) → here ∈ heap → length (here .fields) ≤ 4
+  pub fields-few : (here : Record) → here among heap → length (here .fields) ≤ 4
 
 -- What stands for a record past the end of the heap; its address is 0, which no record has.
 abbrev pub blank : Record

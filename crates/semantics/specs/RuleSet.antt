@@ -3,7 +3,7 @@ use mathlib.Core.List.{List, [], _∷_}
 use mathlib.Core.Path.{_≡_}
 use Prim.Native.Nat.{ℕ, _+_, _≤_, _<_}
 use lib.ListN.{length, getD}
-use Rattle.semantics.specs.Lists.{_∈_}
+use Rattle.semantics.specs.Lists.{_among_}
 
 -- A term of a rule: one of its variables, by number, or a fixed value. Nil is `fixed 0`.
 pub data Term : Type 0 where
@@ -63,24 +63,24 @@ fixedValues ruleSet = 0 ∷ []
 -- A term of a rule with n variables: a variable below n, or one of the fixed values.
 abbrev pub InScope : List ℕ → ℕ → Term → Type 0
 InScope values n (var i) = i < n
-InScope values n (fixed v) = v ∈ values
+InScope values n (fixed v) = v among values
 
 -- What the reader of rule sets guarantees of a rule: its names exist, and every count is in its range.
 pub record WellFormedRule (ruleSet : RuleSet) (rule : Rule) : Type 0 where
   pub head-named : rule .head < length (ruleSet .arities)
   pub variables-few : variables ruleSet rule ≤ 8
   pub pures-few : length (rule .pures) ≤ 8
-  pub pures-left : (pure : Pure) → pure ∈ rule .pures → InScope (fixedValues ruleSet) (variables ruleSet rule) (pure .left)
-  pub pures-right : (pure : Pure) → pure ∈ rule .pures → InScope (fixedValues ruleSet) (variables ruleSet rule) (pure .right)
+  pub pures-left : (pure : Pure) → pure among rule .pures → InScope (fixedValues ruleSet) (variables ruleSet rule) (pure .left)
+  pub pures-right : (pure : Pure) → pure among rule .pures → InScope (fixedValues ruleSet) (variables ruleSet rule) (pure .right)
   pub atoms-few : length (rule .points-to) ≤ 4
-  pub atoms-address : (atom : PointsTo) → atom ∈ rule .points-to → atom .address < variables ruleSet rule
-  pub fields-few : (atom : PointsTo) → atom ∈ rule .points-to → length (atom .fields) ≤ 4
-  pub atoms-fields : (atom : PointsTo) → atom ∈ rule .points-to → (term : Term) → term ∈ atom .fields
+  pub atoms-address : (atom : PointsTo) → atom among rule .points-to → atom .address < variables ruleSet rule
+  pub fields-few : (atom : PointsTo) → atom among rule .points-to → length (atom .fields) ≤ 4
+  pub atoms-fields : (atom : PointsTo) → atom among rule .points-to → (term : Term) → term among atom .fields
       → InScope (fixedValues ruleSet) (variables ruleSet rule) term
   pub calls-few : length (rule .calls) ≤ 3
-  pub calls-named : (call : Call) → call ∈ rule .calls → call .predicate < length (ruleSet .arities)
-  pub calls-counted : (call : Call) → call ∈ rule .calls → length (call .arguments) ≡ arity ruleSet (call .predicate)
-  pub calls-scoped : (call : Call) → call ∈ rule .calls → (term : Term) → term ∈ call .arguments
+  pub calls-named : (call : Call) → call among rule .calls → call .predicate < length (ruleSet .arities)
+  pub calls-counted : (call : Call) → call among rule .calls → length (call .arguments) ≡ arity ruleSet (call .predicate)
+  pub calls-scoped : (call : Call) → call among rule .calls → (term : Term) → term among call .arguments
       → InScope (fixedValues ruleSet) (variables ruleSet rule) term
 
 -- And of the whole rule set.
@@ -89,4 +89,4 @@ pub record WellFormed (ruleSet : RuleSet) : Type 0 where
   pub predicates-few : length (ruleSet .arities) ≤ 8
   pub arguments-few : (predicate : ℕ) → arity ruleSet predicate ≤ 4
   pub rules-few : length (ruleSet .rules) ≤ 16
-  pub each : (rule : Rule) → rule ∈ ruleSet .rules → WellFormedRule ruleSet rule
+  pub each : (rule : Rule) → rule among ruleSet .rules → WellFormedRule ruleSet rule

@@ -5,7 +5,7 @@ use mathlib.Core.Path.{_≡_}
 use mathlib.Core.Logic.{_≢_}
 use Prim.Native.Nat.{ℕ, _<_}
 use lib.ListN.{length, getD}
-use Rattle.semantics.specs.Lists.{_∈_, Distinct}
+use Rattle.semantics.specs.Lists.{_among_, Distinct}
 use Rattle.semantics.specs.RuleSet.{Term, var, fixed, Kind, equal, unequal, Pure, PointsTo, Call, Rule, RuleSet, arity}
 use Rattle.semantics.specs.Heap.{Record, Heap, blank, setOf}
 
@@ -39,10 +39,10 @@ pub data Takes (heap : Heap) (σ : List ℕ) : List PointsTo → List ℕ → Ty
 -- A rule of the rule set with values for its variables, whose pure conditions hold and whose points-to atoms take the records `indices`.
 -- Trees by hand and the engine's rounds both rest on this.
 pub record Applies (ruleSet : RuleSet) (heap : Heap) (rule : Rule) (arguments bound indices : List ℕ) : Type 0 where
-  pub listed : rule ∈ ruleSet .rules
+  pub listed : rule among ruleSet .rules
   pub arguments-counted : length arguments ≡ arity ruleSet (rule .head)
   pub bound-counted : length bound ≡ rule .bound
-  pub meets : (pure : Pure) → pure ∈ rule .pures → Meets (arguments ++ bound) pure
+  pub meets : (pure : Pure) → pure among rule .pures → Meets (arguments ++ bound) pure
   pub takes : Takes heap (arguments ++ bound) (rule .points-to) indices
 
 -- `Tree rule set heap predicate arguments taken`: a tree with that top node; `taken` lists the records taken in all of it.
@@ -74,7 +74,7 @@ pub record ByHand (ruleSet : RuleSet) (heap : Heap) (predicate : ℕ) (arguments
 
 -- Every record of the heap is taken.
 abbrev pub UsesAll : Heap → List ℕ → Type 0
-UsesAll heap taken = (i : ℕ) → i < length heap → i ∈ taken
+UsesAll heap taken = (i : ℕ) → i < length heap → i among taken
 
 -- The query's answer by hand: a finished tree that takes all records, none of them twice.
 pub record Fits (ruleSet : RuleSet) (heap : Heap) (predicate : ℕ) (arguments : List ℕ) : Type 0 where

@@ -5,7 +5,7 @@ use mathlib.Core.Logic.{⊎-elim}
 use Prim.Native.Nat.{ℕ, zero, suc, _+_, _<_}
 use native.Mathlib.Omega.{arith}
 use lib.ListN.{length, getD}
-use Rattle.semantics.specs.Lists.{_∈_}
+use Rattle.semantics.specs.Lists.{_among_}
 use Rattle.words.specs.Block.{tabulate, entries}
 
 pub tabulate-length : {A : Type 0} (n : ℕ) (f : ℕ → A) → length (tabulate n f) ≡ n
@@ -37,13 +37,13 @@ unfolding tabulate
 tabulate-map g zero f = refl
 tabulate-map {A} {B} g (suc n) f = ap (λ (l : List B). g (f 0) ∷ l) (tabulate-map g n (λ i. f (suc i)))
 
-pub tabulate-in : {A : Type 0} (n : ℕ) (f : ℕ → A) (i : ℕ) → i < n → f i ∈ tabulate n f
+pub tabulate-in : {A : Type 0} (n : ℕ) (f : ℕ → A) (i : ℕ) → i < n → f i among tabulate n f
 unfolding tabulate
 tabulate-in zero f i h = absurd (omega arith)
 tabulate-in (suc n) f zero h = List·Memᴰ·head refl
 tabulate-in (suc n) f (suc i) h = List·Memᴰ·tail (tabulate-in n (λ j. f (suc j)) i (omega arith))
 
-pub tabulate-out : {A : Type 0} (n : ℕ) (f : ℕ → A) (a : A) → a ∈ tabulate n f → (i : ℕ) × (i < n) × (a ≡ f i)
+pub tabulate-out : {A : Type 0} (n : ℕ) (f : ℕ → A) (a : A) → a among tabulate n f → (i : ℕ) × (i < n) × (a ≡ f i)
 unfolding tabulate
 tabulate-out zero f a m = absurd (List·Memᴰ·not-nil m)
 tabulate-out (suc n) f a m =
