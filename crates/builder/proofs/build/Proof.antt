@@ -6,12 +6,6 @@ use mathlib.Core.Path.{_∙_}
 use native.Mathlib.Omega.{arith}
 use Rattle.builder.proofs.Building.{cleared-marks, lent-cleared, plan-numberable, named-lined, lines-inside, builds}
 
-mul-clear-part : tie.Need-mul-clear-part
-mul-clear-part c = search needs
-
-clear-part-requires : tie.Need-clear-part-requires
-clear-part-requires c κs = search needs
-
 plan-requires : tie.Need-plan-requires
 plan-requires c κs =
     let s = c .before .before .before .before .before .before .before in
@@ -40,9 +34,6 @@ clear-from-requires c κs =
     let r = plan-numberable (c .before .before .before .before .before .before .before .before .before .before .before .before .before .before .before .before .before .before .before .pre) (c .before .before .before .before .before .before .before .before .before .before .before .before .before .before .before .clear-part .kept .0) (c .before .before .before .before .before .before .before .before .before .before .before .plan .ensures) in
     omega (arith, lines-inside r (c .before .before .before .before .before .before .before .number .ensures), c .before .before .before .gather .ensures .long)
 
-same-length : tie.Need-same-length
-same-length c = search needs
-
 returns : tie.Need-returns
 returns c =
     let s = c .before .before .before .before .before .before .before .before .before .before .before .before .before .before .before .before .before .before .before .before .before .before in
@@ -55,13 +46,5 @@ returns c =
 pub build-spec : {M : Type 1} → statement M
 build-spec =
     tie.close
-    (tie.spec
-    mul-clear-part
-    clear-part-requires
-    plan-requires
-    number-requires
-    gather-requires
-    mul-clear-from
-    clear-from-requires
-    same-length
-    returns)
+    (tie.spec (λ c. search needs) (λ c κs. search needs) plan-requires number-requires gather-requires mul-clear-from clear-from-requires
+    (λ c. search needs) returns)

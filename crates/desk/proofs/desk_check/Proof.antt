@@ -7,18 +7,12 @@ use borrow.Author.Needs.{needs}
 use Rattle.desk.proofs.desk_check.Statement.{statement}
 use Rattle.desk.proofs.desk_check.Tie as tie
 
-load-requires : tie.Need-load-requires
-load-requires c κs = search needs
-
 slice-aggregate-all : tie.Need-slice-aggregate-all
 slice-aggregate-all c = sym (loaded-long (c .before .load .ensures))
 
 slice-aggregate-check : tie.Need-slice-aggregate-check
 slice-aggregate-check c =
     let l = c .before .before .load in sym (length-take-le (l .result) (l .last .1 .0) (loaded-within (l .ensures)))
-
-check-requires : tie.Need-check-requires
-check-requires c κs = search needs
 
 mul-result : tie.Need-mul-result
 mul-result c = omega (arith, checked-small (c .before .check .ensures) .refusal-small)
@@ -32,11 +26,4 @@ returns c = desk-checked (c .before .before .before .before .before .load .ensur
 pub desk-check-spec : {M : Type 1} → statement M
 desk-check-spec =
     tie.close
-    (tie.spec
-    load-requires
-    slice-aggregate-all
-    slice-aggregate-check
-    check-requires
-    mul-result
-    add-result
-    returns)
+    (tie.spec (λ c κs. search needs) slice-aggregate-all slice-aggregate-check (λ c κs. search needs) mul-result add-result returns)

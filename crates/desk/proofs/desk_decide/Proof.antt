@@ -6,15 +6,6 @@ use borrow.Author.Needs.{needs}
 use Rattle.desk.proofs.desk_decide.Statement.{statement}
 use Rattle.desk.proofs.desk_decide.Tie as tie
 
-slice-aggregate-decide : tie.Need-slice-aggregate-decide
-slice-aggregate-decide c = search needs
-
-slice-aggregate-decide-2 : tie.Need-slice-aggregate-decide-2
-slice-aggregate-decide-2 c = search needs
-
-decide-requires : tie.Need-decide-requires
-decide-requires c κs = search needs
-
 mul-result : tie.Need-mul-result
 mul-result c = omega (arith, decided-small (c .before .before .before .decide .ensures) .refusal-small)
 
@@ -25,12 +16,4 @@ returns : tie.Need-returns
 returns c = record { reply = c .before .before .before .before .decide .result; table = _; space = _; decided = c .before .before .before .before .decide .ensures; is-number = refl }
 
 pub desk-decide-spec : {M : Type 1} → statement M
-desk-decide-spec =
-    tie.close
-    (tie.spec
-    slice-aggregate-decide
-    slice-aggregate-decide-2
-    decide-requires
-    mul-result
-    add-result
-    returns)
+desk-decide-spec = tie.close (tie.spec (λ c. search needs) (λ c. search needs) (λ c κs. search needs) mul-result add-result returns)

@@ -12,11 +12,8 @@ returns c = Loaded.beyond (c .before .before .pre) (c .if1 .taken) refl
 returns-2 : tie.Need-returns-2
 returns-2 c = Loaded.broken (c .before .before .before .pre) (λ k e. omega (arith, e, c .if2 .taken)) refl
 
-fill-requires : tie.Need-fill-requires
-fill-requires c κs = search needs
-
 returns-3 : tie.Need-returns-3
 returns-3 c = Loaded.loaded (c .fill .ensures) (omega (arith, c .before .before .if2 .left)) (omega (arith, c .before .before .before .if1 .left))
 
 pub load-spec : {M : Type 1} → statement M
-load-spec = tie.close (tie.spec returns returns-2 fill-requires returns-3)
+load-spec = tie.close (tie.spec returns returns-2 (λ c κs. search needs) returns-3)

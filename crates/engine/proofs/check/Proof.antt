@@ -5,18 +5,6 @@ use borrow.Author.Needs.{needs}
 use Rattle.engine.proofs.check.Statement.{statement}
 use Rattle.engine.proofs.check.Tie as tie
 
-read-requires : tie.Need-read-requires
-read-requires c κs = search needs
-
-enum-known-n : tie.Need-enum-known-n
-enum-known-n c = search needs
-
-cast-t14 : tie.Need-cast-t14
-cast-t14 c = search needs
-
-enum-told : tie.Need-enum-told
-enum-told c = search needs
-
 takes-requires : tie.Need-takes-requires
 takes-requires c κs = (well-formed (c .before .before .before .before .before .read .ensures) (c .before .before .before .enum-told .given .1), block-long (c .before .before .before .before .before .read .ensures) (c .before .before .before .enum-told .given .1))
 
@@ -32,12 +20,4 @@ returns-3 c = not-taken (c .before .before .before .before .before .before .befo
 pub check-spec : {M : Type 1} → statement M
 check-spec =
     tie.close
-    (tie.spec
-    read-requires
-    enum-known-n
-    cast-t14
-    enum-told
-    takes-requires
-    returns
-    returns-2
-    returns-3)
+    (tie.spec (λ c κs. search needs) (λ c. search needs) (λ c. search needs) (λ c. search needs) takes-requires returns returns-2 returns-3)

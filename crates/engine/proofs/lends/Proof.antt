@@ -11,9 +11,6 @@ returns c = told-false (λ l. omega (arith, l .some))
 returns-2 : tie.Need-returns-2
 returns-2 c = told-false (λ l. omega (arith, l .most))
 
-mul-if3 : tie.Need-mul-if3
-mul-if3 c = search needs
-
 returns-3 : tie.Need-returns-3
 returns-3 c = told-true (record { some = omega arith; most = omega arith; three = c .if3 .taken })
 
@@ -21,4 +18,4 @@ returns-4 : tie.Need-returns-4
 returns-4 c = told-false (λ l. c .if3 .left (l .three))
 
 pub lends-spec : {M : Type 1} → statement M
-lends-spec = tie.close (tie.spec returns returns-2 mul-if3 returns-3 returns-4)
+lends-spec = tie.close (tie.spec returns returns-2 (λ c. search needs) returns-3 returns-4)

@@ -5,24 +5,6 @@ use borrow.Author.Needs.{needs}
 use Rattle.formats.proofs.read.Statement.{statement}
 use Rattle.formats.proofs.read.Tie as tie
 
-read-rules-requires : tie.Need-read-rules-requires
-read-rules-requires c κs = search needs
-
-enum-known-n : tie.Need-enum-known-n
-enum-known-n c = search needs
-
-enum-told : tie.Need-enum-told
-enum-told c = search needs
-
-read-heap-requires : tie.Need-read-heap-requires
-read-heap-requires c κs = search needs
-
-enum-known-n-2 : tie.Need-enum-known-n-2
-enum-known-n-2 c = search needs
-
-enum-told-2 : tie.Need-enum-told-2
-enum-told-2 c = search needs
-
 read-query-requires : tie.Need-read-query-requires
 read-query-requires c κs = (c .before .before .before .before .before .before .before .before .read-rules .ensures .header, search needs)
 
@@ -38,4 +20,7 @@ returns-3 c =
     (c .read-query .ensures .is) (c .before .before .before .before .before .before .before .before .before .read-rules .ensures .long ∙ search needs)
 
 pub read-spec : {M : Type 1} → statement M
-read-spec = tie.close (tie.spec read-rules-requires enum-known-n enum-told read-heap-requires enum-known-n-2 enum-told-2 read-query-requires returns returns-2 returns-3)
+read-spec =
+    tie.close
+    (tie.spec (λ c κs. search needs) (λ c. search needs) (λ c. search needs) (λ c κs. search needs) (λ c. search needs) (λ c. search needs)
+    read-query-requires returns returns-2 returns-3)

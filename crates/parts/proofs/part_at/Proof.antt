@@ -9,35 +9,8 @@ use borrow.Author.Needs.{needs}
 use Rattle.parts.proofs.part_at.Statement.{statement}
 use Rattle.parts.proofs.part_at.Tie as tie
 
-sub-left : tie.Need-sub-left
-sub-left c = search needs
-
 returns : tie.Need-returns
 returns c = let a = c .before .before .args in none (a .s .now) (a .at) (c .before .before .pre) (omega (arith, length-drop (a .at) (a .s .now)))
-
-add-from : tie.Need-add-from
-add-from c = search needs
-
-shared-slice-read-wide : tie.Need-shared-slice-read-wide
-shared-slice-read-wide c = search needs
-
-wide-requires : tie.Need-wide-requires
-wide-requires c κs = search needs
-
-add-wide : tie.Need-add-wide
-add-wide c = search needs
-
-shared-slice-read-wide-2 : tie.Need-shared-slice-read-wide-2
-shared-slice-read-wide-2 c = search needs
-
-wide-requires-2 : tie.Need-wide-requires-2
-wide-requires-2 c κs = search needs
-
-mul-size : tie.Need-mul-size
-mul-size c = search needs
-
-add-size : tie.Need-add-size
-add-size c = search needs
 
 returns-2 : tie.Need-returns-2
 returns-2 c =
@@ -46,9 +19,6 @@ returns-2 c =
     let low : c .before .before .before .wide .result ≡ getD (drop (a .at) (a .s .now)) 0 0 = first (a .s .now) (a .at) 0 (omega arith) (c .before .before .before .wide .ensures .0) in
     let high : c .before .wide2 .result ≡ getD (drop (a .at) (a .s .now)) 1 0 = first (a .s .now) (a .at) 1 refl (c .before .wide2 .ensures .0) in
     cut (a .s .now) (a .at) (c .before .before .before .before .before .before .before .pre) (omega arith) (omega (arith, c .if2 .taken))
-
-add-t16 : tie.Need-add-t16
-add-t16 c = search needs
 
 returns-3 : tie.Need-returns-3
 returns-3 c =
@@ -62,17 +32,5 @@ returns-3 c =
 pub part-at-spec : {M : Type 1} → statement M
 part-at-spec =
     tie.close
-    (tie.spec
-    sub-left
-    returns
-    add-from
-    shared-slice-read-wide
-    wide-requires
-    add-wide
-    shared-slice-read-wide-2
-    wide-requires-2
-    mul-size
-    add-size
-    returns-2
-    add-t16
-    returns-3)
+    (tie.spec (λ c. search needs) returns (λ c. search needs) (λ c. search needs) (λ c κs. search needs) (λ c. search needs)
+    (λ c. search needs) (λ c κs. search needs) (λ c. search needs) (λ c. search needs) returns-2 (λ c. search needs) returns-3)

@@ -17,60 +17,12 @@ abbrev μ-loop : tie.MeasureT-loop
 loop-holds : tie.Need-loop-holds Inv-loop μ-loop
 loop-holds c = let s = c .before .before in gathered-none (s .args .table .now) (s .args .at) (s .args .space .now) (s .pre .1)
 
-mul-line : tie.Need-mul-line Inv-loop μ-loop
-mul-line c = search needs
-
-mul-line-2 : tie.Need-mul-line-2 Inv-loop μ-loop
-mul-line-2 c = search needs
-
-slice-read-line : tie.Need-slice-read-line Inv-loop μ-loop
-slice-read-line c = search needs
-
-mul-positions : tie.Need-mul-positions Inv-loop μ-loop
-mul-positions c = search needs
-
-add-positions : tie.Need-add-positions Inv-loop μ-loop
-add-positions c = search needs
-
-mul-positions-2 : tie.Need-mul-positions-2 Inv-loop μ-loop
-mul-positions-2 c = search needs
-
-slice-read-positions : tie.Need-slice-read-positions Inv-loop μ-loop
-slice-read-positions c = search needs
-
-mul-names : tie.Need-mul-names Inv-loop μ-loop
-mul-names c = search needs
-
-add-names : tie.Need-add-names Inv-loop μ-loop
-add-names c = search needs
-
-mul-names-2 : tie.Need-mul-names-2 Inv-loop μ-loop
-mul-names-2 c = search needs
-
-slice-read-names : tie.Need-slice-read-names Inv-loop μ-loop
-slice-read-names c = search needs
-
-mul-code-of : tie.Need-mul-code-of Inv-loop μ-loop
-mul-code-of c = search needs
-
-shared-slice-read-code-of : tie.Need-shared-slice-read-code-of Inv-loop μ-loop
-shared-slice-read-code-of c = search needs
-
-code-of-requires : tie.Need-code-of-requires Inv-loop μ-loop
-code-of-requires c κs = search needs
-
 put-requires : tie.Need-put-requires Inv-loop μ-loop
 put-requires c κs =
     let s = c .before .before .before .before .before .before .before .before .before .before .before in
     let l = c .before .before .before .before .before .before .before .before .loop in
     let taken = c .before .before .before .before .before .if1 .taken in
     (omega (arith, taken), line-low (s .args .table .now) (s .args .at) (s .args .space .now) (s .pre .1) (l .i) (l .space) (omega arith) (l .inv) (omega (arith, taken)) .1)
-
-add-i : tie.Need-add-i Inv-loop μ-loop
-add-i c = search needs
-
-loop-less : tie.Need-loop-less Inv-loop μ-loop
-loop-less c = search needs
 
 loop-again : tie.Need-loop-again Inv-loop μ-loop
 loop-again c =
@@ -94,27 +46,7 @@ returns c =
 pub gather-spec : {M : Type 1} → statement M
 gather-spec =
     tie.close
-    (tie.spec
-    Inv-loop
-    μ-loop
-    loop-holds
-    mul-line
-    mul-line-2
-    slice-read-line
-    mul-positions
-    add-positions
-    mul-positions-2
-    slice-read-positions
-    mul-names
-    add-names
-    mul-names-2
-    slice-read-names
-    mul-code-of
-    shared-slice-read-code-of
-    code-of-requires
-    put-requires
-    add-i
-    loop-less
-    loop-again
-    same-length
-    returns)
+    (tie.spec Inv-loop μ-loop loop-holds (λ c. search needs) (λ c. search needs) (λ c. search needs) (λ c. search needs) (λ c. search needs)
+    (λ c. search needs) (λ c. search needs) (λ c. search needs) (λ c. search needs) (λ c. search needs) (λ c. search needs)
+    (λ c. search needs) (λ c. search needs) (λ c κs. search needs) put-requires (λ c. search needs) (λ c. search needs) loop-again
+    same-length returns)

@@ -4,35 +4,11 @@ use borrow.Author.Needs.{needs}
 use Rattle.builder.proofs.marked.line_of.Statement.{statement}
 use Rattle.builder.proofs.marked.line_of.Tie as tie
 
-returns : tie.Need-returns
-returns c = search needs
-
-mul-result : tie.Need-mul-result
-mul-result c = search needs
-
-sub-result : tie.Need-sub-result
-sub-result c = search needs
-
-mul-result-2 : tie.Need-mul-result-2
-mul-result-2 c = search needs
-
-shared-slice-read-result : tie.Need-shared-slice-read-result
-shared-slice-read-result c = search needs
-
-cast-result : tie.Need-cast-result
-cast-result c = search needs
-
 returns-2 : tie.Need-returns-2
 returns-2 c = number-at (c .before .before .args .space .now) (c .before .before .args .called) (c .before .if1 .left)
 
 pub line-of-spec : {M : Type 1} → statement M
 line-of-spec =
     tie.close
-    (tie.spec
-    returns
-    mul-result
-    sub-result
-    mul-result-2
-    shared-slice-read-result
-    cast-result
+    (tie.spec (λ c. search needs) (λ c. search needs) (λ c. search needs) (λ c. search needs) (λ c. search needs) (λ c. search needs)
     returns-2)

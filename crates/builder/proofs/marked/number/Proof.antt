@@ -18,36 +18,6 @@ abbrev μ-loop : tie.MeasureT-loop
 loop-holds : tie.Need-loop-holds Inv-loop μ-loop
 loop-holds c = numbered-none (c .before .args .at) (c .before .args .space .now) (c .before .pre)
 
-mul-if1 : tie.Need-mul-if1 Inv-loop μ-loop
-mul-if1 c = search needs
-
-mul-if1-2 : tie.Need-mul-if1-2 Inv-loop μ-loop
-mul-if1-2 c = search needs
-
-slice-read-if1 : tie.Need-slice-read-if1 Inv-loop μ-loop
-slice-read-if1 c = search needs
-
-add-lines : tie.Need-add-lines Inv-loop μ-loop
-add-lines c = search needs
-
-mul-space : tie.Need-mul-space Inv-loop μ-loop
-mul-space c = search needs
-
-mul-space-2 : tie.Need-mul-space-2 Inv-loop μ-loop
-mul-space-2 c = search needs
-
-slice-write-space : tie.Need-slice-write-space Inv-loop μ-loop
-slice-write-space c = search needs
-
-mul-renamed : tie.Need-mul-renamed Inv-loop μ-loop
-mul-renamed c = search needs
-
-add-renamed : tie.Need-add-renamed Inv-loop μ-loop
-add-renamed c = search needs
-
-mul-renamed-2 : tie.Need-mul-renamed-2 Inv-loop μ-loop
-mul-renamed-2 c = search needs
-
 slice-reshared-read-renamed : tie.Need-slice-reshared-read-renamed Inv-loop μ-loop
 slice-reshared-read-renamed c = simp length-set (omega arith)
 
@@ -57,23 +27,8 @@ renamed-requires c κs =
     let l = c .before .before .before .before .loop in
     called-inside (s .args .at) (s .args .space .now) (s .pre) (l .i) (l .space) (l .lines) (omega arith) (l .inv) (c .before .if1 .taken)
 
-mul-space-3 : tie.Need-mul-space-3 Inv-loop μ-loop
-mul-space-3 c = search needs
-
-add-space : tie.Need-add-space Inv-loop μ-loop
-add-space c = search needs
-
-mul-space-4 : tie.Need-mul-space-4 Inv-loop μ-loop
-mul-space-4 c = search needs
-
 slice-write-space-2 : tie.Need-slice-write-space-2 Inv-loop μ-loop
 slice-write-space-2 c = simp length-set (omega arith)
-
-add-i : tie.Need-add-i Inv-loop μ-loop
-add-i c = search needs
-
-loop-less : tie.Need-loop-less Inv-loop μ-loop
-loop-less c = search needs
 
 loop-again : tie.Need-loop-again Inv-loop μ-loop
 loop-again c =
@@ -97,28 +52,7 @@ returns c =
 pub number-spec : {M : Type 1} → statement M
 number-spec =
     tie.close
-    (tie.spec
-    Inv-loop
-    μ-loop
-    loop-holds
-    mul-if1
-    mul-if1-2
-    slice-read-if1
-    add-lines
-    mul-space
-    mul-space-2
-    slice-write-space
-    mul-renamed
-    add-renamed
-    mul-renamed-2
-    slice-reshared-read-renamed
-    renamed-requires
-    mul-space-3
-    add-space
-    mul-space-4
-    slice-write-space-2
-    add-i
-    loop-less
-    loop-again
-    same-length
-    returns)
+    (tie.spec Inv-loop μ-loop loop-holds (λ c. search needs) (λ c. search needs) (λ c. search needs) (λ c. search needs) (λ c. search needs)
+    (λ c. search needs) (λ c. search needs) (λ c. search needs) (λ c. search needs) (λ c. search needs) slice-reshared-read-renamed
+    renamed-requires (λ c. search needs) (λ c. search needs) (λ c. search needs) slice-write-space-2 (λ c. search needs) (λ c. search needs)
+    loop-again same-length returns)

@@ -6,29 +6,14 @@ use borrow.Author.Needs.{needs}
 use Rattle.builder.proofs.marked.renamed.Statement.{statement}
 use Rattle.builder.proofs.marked.renamed.Tie as tie
 
-called-of-requires : tie.Need-called-of-requires
-called-of-requires c κs = search needs
-
 line-of-requires : tie.Need-line-of-requires
 line-of-requires c κs = omega (arith, c .called-of .ensures, c .before .before .pre 0 (omega arith))
-
-called-of-requires-2 : tie.Need-called-of-requires-2
-called-of-requires-2 c κs = search needs
 
 line-of-requires-2 : tie.Need-line-of-requires-2
 line-of-requires-2 c κs = omega (arith, c .called-of2 .ensures, c .before .before .before .before .pre 1 (omega arith))
 
-called-of-requires-3 : tie.Need-called-of-requires-3
-called-of-requires-3 c κs = search needs
-
 line-of-requires-3 : tie.Need-line-of-requires-3
 line-of-requires-3 c κs = omega (arith, c .called-of3 .ensures, c .before .before .before .before .before .before .pre 2 (omega arith))
-
-rule-of-requires : tie.Need-rule-of-requires
-rule-of-requires c κs = search needs
-
-rule-word-requires : tie.Need-rule-word-requires
-rule-word-requires c κs = search needs
 
 returns : tie.Need-returns
 returns c =
@@ -39,13 +24,5 @@ returns c =
 pub renamed-spec : {M : Type 1} → statement M
 renamed-spec =
     tie.close
-    (tie.spec
-    called-of-requires
-    line-of-requires
-    called-of-requires-2
-    line-of-requires-2
-    called-of-requires-3
-    line-of-requires-3
-    rule-of-requires
-    rule-word-requires
-    returns)
+    (tie.spec (λ c κs. search needs) line-of-requires (λ c κs. search needs) line-of-requires-2 (λ c κs. search needs) line-of-requires-3
+    (λ c κs. search needs) (λ c κs. search needs) returns)

@@ -12,42 +12,6 @@ use borrow.Author.Needs.{needs}
 use Rattle.builder.proofs.plan.visit.Statement.{statement}
 use Rattle.builder.proofs.plan.visit.Tie as tie
 
-earlier-requires : tie.Need-earlier-requires
-earlier-requires c κs = search needs
-
-mul-code-of : tie.Need-mul-code-of
-mul-code-of c = search needs
-
-shared-slice-read-code-of : tie.Need-shared-slice-read-code-of
-shared-slice-read-code-of c = search needs
-
-code-of-requires : tie.Need-code-of-requires
-code-of-requires c κs = search needs
-
-ground-requires : tie.Need-ground-requires
-ground-requires c κs = search needs
-
-mul-space : tie.Need-mul-space
-mul-space c = search needs
-
-add-space : tie.Need-add-space
-add-space c = search needs
-
-mul-space-2 : tie.Need-mul-space-2
-mul-space-2 c = search needs
-
-slice-write-space : tie.Need-slice-write-space
-slice-write-space c = search needs
-
-mul-space-3 : tie.Need-mul-space-3
-mul-space-3 c = search needs
-
-add-space-2 : tie.Need-add-space-2
-add-space-2 c = search needs
-
-mul-space-4 : tie.Need-mul-space-4
-mul-space-4 c = search needs
-
 slice-write-space-2 : tie.Need-slice-write-space-2
 slice-write-space-2 c = simp length-set (omega arith)
 
@@ -90,22 +54,6 @@ returns c =
 pub visit-spec : {M : Type 1} → statement M
 visit-spec =
     tie.close
-    (tie.spec
-    earlier-requires
-    mul-code-of
-    shared-slice-read-code-of
-    code-of-requires
-    ground-requires
-    mul-space
-    add-space
-    mul-space-2
-    slice-write-space
-    mul-space-3
-    add-space-2
-    mul-space-4
-    slice-write-space-2
-    mark-requires
-    mark-requires-2
-    mark-requires-3
-    same-length
-    returns)
+    (tie.spec (λ c κs. search needs) (λ c. search needs) (λ c. search needs) (λ c κs. search needs) (λ c κs. search needs)
+    (λ c. search needs) (λ c. search needs) (λ c. search needs) (λ c. search needs) (λ c. search needs) (λ c. search needs)
+    (λ c. search needs) slice-write-space-2 mark-requires mark-requires-2 mark-requires-3 same-length returns)

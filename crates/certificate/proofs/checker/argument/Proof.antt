@@ -8,21 +8,6 @@ use Rattle.certificate.proofs.Reading.{argument-at, argument-past}
 use Rattle.certificate.proofs.checker.argument.Statement.{statement}
 use Rattle.certificate.proofs.checker.argument.Tie as tie
 
-arity-requires : tie.Need-arity-requires
-arity-requires c κs = search needs
-
-add-position : tie.Need-add-position
-add-position c = search needs
-
-add-position-2 : tie.Need-add-position-2
-add-position-2 c = search needs
-
-element-copy-out-position : tie.Need-element-copy-out-position
-element-copy-out-position c = search needs
-
-position-requires : tie.Need-position-requires
-position-requires c κs = search needs
-
 returns : tie.Need-returns
 returns c =
     let g = c .before .before .before .before .args in
@@ -37,11 +22,4 @@ returns-2 c =
 pub argument-spec : {M : Type 1} → statement M
 argument-spec =
     tie.close
-    (tie.spec
-    arity-requires
-    add-position
-    add-position-2
-    element-copy-out-position
-    position-requires
-    returns
-    returns-2)
+    (tie.spec (λ c κs. search needs) (λ c. search needs) (λ c. search needs) (λ c. search needs) (λ c κs. search needs) returns returns-2)

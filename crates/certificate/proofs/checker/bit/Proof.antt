@@ -5,14 +5,8 @@ use lib.Pow.{pow-lt}
 use Rattle.certificate.proofs.checker.bit.Statement.{statement}
 use Rattle.certificate.proofs.checker.bit.Tie as tie
 
-cast-result : tie.Need-cast-result
-cast-result c = search needs
-
-shl-result : tie.Need-shl-result
-shl-result c = search needs
-
 returns : tie.Need-returns
 returns c = omega (arith, pow-lt (c .pre))
 
 pub bit-spec : {M : Type 1} → statement M
-bit-spec = tie.close (tie.spec cast-result shl-result returns)
+bit-spec = tie.close (tie.spec (λ c. search needs) (λ c. search needs) returns)

@@ -14,24 +14,6 @@ use Rattle.certificate.proofs.Reading.{code-four}
 use Rattle.certificate.proofs.checker.call_fact.Statement.{statement}
 use Rattle.certificate.proofs.checker.call_fact.Tie as tie
 
-argument-requires : tie.Need-argument-requires
-argument-requires c κs = search needs
-
-argument-requires-2 : tie.Need-argument-requires-2
-argument-requires-2 c κs = search needs
-
-argument-requires-3 : tie.Need-argument-requires-3
-argument-requires-3 c κs = search needs
-
-argument-requires-4 : tie.Need-argument-requires-4
-argument-requires-4 c κs = search needs
-
-element-copy-out-pack : tie.Need-element-copy-out-pack
-element-copy-out-pack c = search needs
-
-pack-requires : tie.Need-pack-requires
-pack-requires c κs = search needs
-
 returns : tie.Need-returns
 returns c =
     let g = c .before .before .before .before .before .before .before .args in
@@ -46,11 +28,5 @@ returns c =
 pub call-fact-spec : {M : Type 1} → statement M
 call-fact-spec =
     tie.close
-    (tie.spec
-    argument-requires
-    argument-requires-2
-    argument-requires-3
-    argument-requires-4
-    element-copy-out-pack
-    pack-requires
-    returns)
+    (tie.spec (λ c κs. search needs) (λ c κs. search needs) (λ c κs. search needs) (λ c κs. search needs) (λ c. search needs)
+    (λ c κs. search needs) returns)

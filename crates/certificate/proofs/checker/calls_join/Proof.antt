@@ -25,32 +25,8 @@ Inv-loop rules at words k used word count lines₀ sum₀ c₀ lines sum c =
 abbrev μ-loop : tie.MeasureT-loop
 μ-loop rules at words k used word count lines₀ sum₀ c₀ lines sum c = count - c
 
-positions-at-requires : tie.Need-positions-at-requires Inv-loop μ-loop
-positions-at-requires c κs = search needs
-
-add-wide : tie.Need-add-wide Inv-loop μ-loop
-add-wide c = search needs
-
-element-copy-out-wide : tie.Need-element-copy-out-wide Inv-loop μ-loop
-element-copy-out-wide c = search needs
-
-wide-requires : tie.Need-wide-requires Inv-loop μ-loop
-wide-requires c κs = search needs
-
-rule-at-requires : tie.Need-rule-at-requires Inv-loop μ-loop
-rule-at-requires c κs = search needs
-
 loop-holds : tie.Need-loop-holds Inv-loop μ-loop
 loop-holds c = (omega arith, omega arith, rw (c .rule-at .ensures) (λ p. p), rw (c .rule-at .ensures) (λ p. p))
-
-add-calls-line : tie.Need-add-calls-line Inv-loop μ-loop
-add-calls-line c = search needs
-
-mul-calls-line : tie.Need-mul-calls-line Inv-loop μ-loop
-mul-calls-line c = search needs
-
-add-calls-line-2 : tie.Need-add-calls-line-2 Inv-loop μ-loop
-add-calls-line-2 c = search needs
 
 calls-line-requires : tie.Need-calls-line-requires Inv-loop μ-loop
 calls-line-requires c κs =
@@ -73,12 +49,6 @@ fact-at-requires c κs =
     let line = c .before .calls-line .ensures .so (c .if1 .taken) in
     (line .some, omega (arith, line .earlier, c .before .before .before .before .before .before .before .before .before .pre .2))
 
-part-of-requires : tie.Need-part-of-requires Inv-loop μ-loop
-part-of-requires c κs = search needs
-
-shares-requires : tie.Need-shares-requires Inv-loop μ-loop
-shares-requires c κs = search needs
-
 returns-2 : tie.Need-returns-2 Inv-loop μ-loop
 returns-2 c =
     let g = c .before .before .before .before .before .before .before .before .before .before .before .before .before .args in
@@ -93,12 +63,6 @@ returns-2 c =
 add-sum : tie.Need-add-sum Inv-loop μ-loop
 add-sum c =
     record { fits = sum-small (c .before .before .part-of .result) (c .before .before .before .before .before .before .before .loop .sum) (omega (arith, c .before .before .part-of .ensures)) (c .before .before .before .before .before .before .before .loop .inv .1) (told-apart (c .before .shares .ensures) (c .if2 .left)) }
-
-add-c : tie.Need-add-c Inv-loop μ-loop
-add-c c = search needs
-
-loop-less : tie.Need-loop-less Inv-loop μ-loop
-loop-less c = search needs
 
 loop-again : tie.Need-loop-again Inv-loop μ-loop
 loop-again c =
@@ -127,12 +91,6 @@ returns-3 c =
     (calls-ended (g .rules .now) (g .at) (g .words .now) (g .k) (givenBy (positionsAt (g .words .now) (g .k))) (partOf (factAt (g .words .now) (g .k))) (l .c) (l .lines) (l .sum)
     (omega (arith, c .before .before .before .before .wide .ensures)) (l .inv .2 p) .0))
 
-fact-at-requires-2 : tie.Need-fact-at-requires-2 Inv-loop μ-loop
-fact-at-requires-2 c κs = search needs
-
-part-of-requires-2 : tie.Need-part-of-requires-2 Inv-loop μ-loop
-part-of-requires-2 c κs = search needs
-
 returns-4 : tie.Need-returns-4 Inv-loop μ-loop
 returns-4 c =
     let g = c .before .before .before .before .before .before .before .before .before .before .args in
@@ -149,29 +107,7 @@ returns-4 c =
 pub calls-join-spec : {M : Type 1} → statement M
 calls-join-spec =
     tie.close
-    (tie.spec
-    Inv-loop
-    μ-loop
-    positions-at-requires
-    add-wide
-    element-copy-out-wide
-    wide-requires
-    rule-at-requires
-    loop-holds
-    add-calls-line
-    mul-calls-line
-    add-calls-line-2
-    calls-line-requires
-    returns
-    fact-at-requires
-    part-of-requires
-    shares-requires
-    returns-2
-    add-sum
-    add-c
-    loop-less
-    loop-again
-    returns-3
-    fact-at-requires-2
-    part-of-requires-2
-    returns-4)
+    (tie.spec Inv-loop μ-loop (λ c κs. search needs) (λ c. search needs) (λ c. search needs) (λ c κs. search needs) (λ c κs. search needs)
+    loop-holds (λ c. search needs) (λ c. search needs) (λ c. search needs) calls-line-requires returns fact-at-requires
+    (λ c κs. search needs) (λ c κs. search needs) returns-2 add-sum (λ c. search needs) (λ c. search needs) loop-again returns-3
+    (λ c κs. search needs) (λ c κs. search needs) returns-4)

@@ -14,15 +14,6 @@ returns c = told-false (λ p. omega (arith, p .some, c .if1 .taken))
 returns-2 : tie.Need-returns-2
 returns-2 c = told-false (λ p. omega (arith, p .earlier, c .if2 .taken))
 
-fact-at-requires : tie.Need-fact-at-requires
-fact-at-requires c κs = search needs
-
-part-of-requires : tie.Need-part-of-requires
-part-of-requires c κs = search needs
-
-call-fact-requires : tie.Need-call-fact-requires
-call-fact-requires c κs = search needs
-
 returns-3 : tie.Need-returns-3
 returns-3 c =
     let g = c .before .before .before .before .before .before .args in
@@ -30,6 +21,4 @@ returns-3 c =
     (omega (arith, c .before .before .before .before .if1 .left)) (c .before .before .before .if2 .left) (c .before .before .fact-at .ensures) (c .before .part-of .ensures) (c .call-fact .ensures)
 
 pub calls-line-spec : {M : Type 1} → statement M
-calls-line-spec =
-    tie.close
-    (tie.spec returns returns-2 fact-at-requires part-of-requires call-fact-requires returns-3)
+calls-line-spec = tie.close (tie.spec returns returns-2 (λ c κs. search needs) (λ c κs. search needs) (λ c κs. search needs) returns-3)

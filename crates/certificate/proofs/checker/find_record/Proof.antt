@@ -18,34 +18,13 @@ Inv-loop rules at word records count i₀ i =
 abbrev μ-loop : tie.MeasureT-loop
 μ-loop rules at word records count i₀ i = count - i
 
-element-copy-out-wide : tie.Need-element-copy-out-wide Inv-loop μ-loop
-element-copy-out-wide c = search needs
-
-wide-requires : tie.Need-wide-requires Inv-loop μ-loop
-wide-requires c κs = search needs
-
 loop-holds : tie.Need-loop-holds Inv-loop μ-loop
 loop-holds c = (omega arith, below-none _)
-
-mul-record-matches : tie.Need-mul-record-matches Inv-loop μ-loop
-mul-record-matches c = search needs
-
-add-record-matches : tie.Need-add-record-matches Inv-loop μ-loop
-add-record-matches c = search needs
-
-record-matches-requires : tie.Need-record-matches-requires Inv-loop μ-loop
-record-matches-requires c κs = search needs
 
 returns : tie.Need-returns Inv-loop μ-loop
 returns c =
     let l = c .before .before .before .loop in
     found (record { below = omega (arith, c .before .before .before .before .wide .ensures); is = c .before .record-matches .ensures .so (c .if1 .taken); first = l .inv .1 })
-
-add-i : tie.Need-add-i Inv-loop μ-loop
-add-i c = search needs
-
-loop-less : tie.Need-loop-less Inv-loop μ-loop
-loop-less c = search needs
 
 loop-again : tie.Need-loop-again Inv-loop μ-loop
 loop-again c = (omega arith, below-more _ _ (c .before .before .before .loop .inv .1) (c .before .record-matches .ensures .not-so (c .if1 .left)))
@@ -58,17 +37,5 @@ returns-2 c =
 pub find-record-spec : {M : Type 1} → statement M
 find-record-spec =
     tie.close
-    (tie.spec
-    Inv-loop
-    μ-loop
-    element-copy-out-wide
-    wide-requires
-    loop-holds
-    mul-record-matches
-    add-record-matches
-    record-matches-requires
-    returns
-    add-i
-    loop-less
-    loop-again
-    returns-2)
+    (tie.spec Inv-loop μ-loop (λ c. search needs) (λ c κs. search needs) loop-holds (λ c. search needs) (λ c. search needs)
+    (λ c κs. search needs) returns (λ c. search needs) (λ c. search needs) loop-again returns-2)

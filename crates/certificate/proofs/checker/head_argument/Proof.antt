@@ -5,9 +5,6 @@ use Rattle.certificate.proofs.Reading.{head-at, head-past}
 use Rattle.certificate.proofs.checker.head_argument.Statement.{statement}
 use Rattle.certificate.proofs.checker.head_argument.Tie as tie
 
-variable-of-requires : tie.Need-variable-of-requires
-variable-of-requires c κs = search needs
-
 returns : tie.Need-returns
 returns c = let g = c .before .before .args in c .variable-of .ensures ∙ head-at (g .word) (g .count) (g .j) (c .before .if1 .taken)
 
@@ -15,4 +12,4 @@ returns-2 : tie.Need-returns-2
 returns-2 c = let g = c .before .args in head-past (g .word) (g .count) (g .j) (c .if1 .left)
 
 pub head-argument-spec : {M : Type 1} → statement M
-head-argument-spec = tie.close (tie.spec variable-of-requires returns returns-2)
+head-argument-spec = tie.close (tie.spec (λ c κs. search needs) returns returns-2)

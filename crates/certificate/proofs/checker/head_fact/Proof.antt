@@ -11,27 +11,6 @@ use Rattle.certificate.proofs.Reading.{code-four}
 use Rattle.certificate.proofs.checker.head_fact.Statement.{statement}
 use Rattle.certificate.proofs.checker.head_fact.Tie as tie
 
-arity-requires : tie.Need-arity-requires
-arity-requires c κs = search needs
-
-head-argument-requires : tie.Need-head-argument-requires
-head-argument-requires c κs = search needs
-
-head-argument-requires-2 : tie.Need-head-argument-requires-2
-head-argument-requires-2 c κs = search needs
-
-head-argument-requires-3 : tie.Need-head-argument-requires-3
-head-argument-requires-3 c κs = search needs
-
-head-argument-requires-4 : tie.Need-head-argument-requires-4
-head-argument-requires-4 c κs = search needs
-
-element-copy-out-pack : tie.Need-element-copy-out-pack
-element-copy-out-pack c = search needs
-
-pack-requires : tie.Need-pack-requires
-pack-requires c κs = search needs
-
 returns : tie.Need-returns
 returns c =
     let g = c .before .before .before .before .before .before .before .before .args in
@@ -47,12 +26,5 @@ returns c =
 pub head-fact-spec : {M : Type 1} → statement M
 head-fact-spec =
     tie.close
-    (tie.spec
-    arity-requires
-    head-argument-requires
-    head-argument-requires-2
-    head-argument-requires-3
-    head-argument-requires-4
-    element-copy-out-pack
-    pack-requires
-    returns)
+    (tie.spec (λ c κs. search needs) (λ c κs. search needs) (λ c κs. search needs) (λ c κs. search needs) (λ c κs. search needs)
+    (λ c. search needs) (λ c κs. search needs) returns)

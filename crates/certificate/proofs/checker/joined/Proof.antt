@@ -24,41 +24,14 @@ Inv-loop rules at records words k word count used₀ a₀ used a =
 abbrev μ-loop : tie.MeasureT-loop
 μ-loop rules at records words k word count used₀ a₀ used a = count - a
 
-positions-at-requires : tie.Need-positions-at-requires Inv-loop μ-loop
-positions-at-requires c κs = search needs
-
-add-wide : tie.Need-add-wide Inv-loop μ-loop
-add-wide c = search needs
-
-element-copy-out-wide : tie.Need-element-copy-out-wide Inv-loop μ-loop
-element-copy-out-wide c = search needs
-
-wide-requires : tie.Need-wide-requires Inv-loop μ-loop
-wide-requires c κs = search needs
-
 loop-holds : tie.Need-loop-holds Inv-loop μ-loop
 loop-holds c = (omega arith, omega arith, λ p. p, λ p. p)
-
-add-find-record : tie.Need-add-find-record Inv-loop μ-loop
-add-find-record c = search needs
-
-mul-find-record : tie.Need-mul-find-record Inv-loop μ-loop
-mul-find-record c = search needs
-
-add-find-record-2 : tie.Need-add-find-record-2 Inv-loop μ-loop
-add-find-record-2 c = search needs
 
 find-record-requires : tie.Need-find-record-requires Inv-loop μ-loop
 find-record-requires c κs =
     let p = c .before .before .before .before .before .before .pre in
     let h : c .before .loop .a < getD (c .before .before .before .before .before .before .args .rules .now) (c .before .before .before .before .before .before .args .at + 3) 0 = omega (arith, c .before .before .wide .ensures) in
     (omega (arith, p .0 .inside, p .0 .ready .atoms-few), atom-count (c .before .before .before .before .before .before .args .rules .now) (c .before .before .before .before .before .before .args .at) (c .before .loop .a) (p .0) h, p .1)
-
-element-copy-out-wide-2 : tie.Need-element-copy-out-wide-2 Inv-loop μ-loop
-element-copy-out-wide-2 c = search needs
-
-wide-requires-2 : tie.Need-wide-requires-2 Inv-loop μ-loop
-wide-requires-2 c κs = search needs
 
 returns : tie.Need-returns Inv-loop μ-loop
 returns c =
@@ -75,9 +48,6 @@ returns c =
 
 bit-requires : tie.Need-bit-requires Inv-loop μ-loop
 bit-requires c κs = omega (arith, c .if1 .left, c .before .wide2 .ensures, c .before .before .before .before .before .before .before .before .before .before .pre .1)
-
-shares-requires : tie.Need-shares-requires Inv-loop μ-loop
-shares-requires c κs = search needs
 
 returns-2 : tie.Need-returns-2 Inv-loop μ-loop
 returns-2 c =
@@ -98,12 +68,6 @@ add-used : tie.Need-add-used Inv-loop μ-loop
 add-used c =
     record { fits = sum-small (c .before .before .bit .result) (c .before .before .before .before .before .before .before .before .loop .used) (omega (arith, c .before .before .bit .ok)) (c .before .before .before .before .before .before .before .before .loop .inv .1) (told-apart (c .before .shares .ensures) (c .if2 .left)) }
 
-add-a : tie.Need-add-a Inv-loop μ-loop
-add-a c = search needs
-
-loop-less : tie.Need-loop-less Inv-loop μ-loop
-loop-less c = search needs
-
 loop-again : tie.Need-loop-again Inv-loop μ-loop
 loop-again c =
     let g = c .before .before .before .before .before .before .before .before .before .before .before .before .before .args in
@@ -123,9 +87,6 @@ loop-again c =
           (record { takes = takes; apart = rw (c .before .before .bit .ensures) at apart; rest = rw (c .before .before .bit .ensures) at p })),
     )
 
-calls-join-requires : tie.Need-calls-join-requires Inv-loop μ-loop
-calls-join-requires c κs = search needs
-
 returns-3 : tie.Need-returns-3 Inv-loop μ-loop
 returns-3 c =
     let g = c .before .before .before .before .before .before .before .args in
@@ -139,27 +100,7 @@ returns-3 c =
 pub joined-spec : {M : Type 1} → statement M
 joined-spec =
     tie.close
-    (tie.spec
-    Inv-loop
-    μ-loop
-    positions-at-requires
-    add-wide
-    element-copy-out-wide
-    wide-requires
-    loop-holds
-    add-find-record
-    mul-find-record
-    add-find-record-2
-    find-record-requires
-    element-copy-out-wide-2
-    wide-requires-2
-    returns
-    bit-requires
-    shares-requires
-    returns-2
-    add-used
-    add-a
-    loop-less
-    loop-again
-    calls-join-requires
+    (tie.spec Inv-loop μ-loop (λ c κs. search needs) (λ c. search needs) (λ c. search needs) (λ c κs. search needs) loop-holds
+    (λ c. search needs) (λ c. search needs) (λ c. search needs) find-record-requires (λ c. search needs) (λ c κs. search needs) returns
+    bit-requires (λ c κs. search needs) returns-2 add-used (λ c. search needs) (λ c. search needs) loop-again (λ c κs. search needs)
     returns-3)

@@ -10,28 +10,10 @@ use Rattle.certificate.proofs.Answers.{told-as}
 use Rattle.certificate.proofs.checker.line_holds.Statement.{statement}
 use Rattle.certificate.proofs.checker.line_holds.Tie as tie
 
-rule-at-requires : tie.Need-rule-at-requires
-rule-at-requires c κs = search needs
-
-rule-of-requires : tie.Need-rule-of-requires
-rule-of-requires c κs = search needs
-
-element-copy-out-if1 : tie.Need-element-copy-out-if1
-element-copy-out-if1 c = search needs
-
 returns : tie.Need-returns
 returns c =
     let e = c .before .before .rule-of .ensures ∙ ap (λ (x : ℕ). x % 256) (c .before .before .before .rule-at .ensures) in
     told-false (λ p. omega (arith, p .in-rule-set, c .if1 .taken, e))
-
-wide-requires : tie.Need-wide-requires
-wide-requires c κs = search needs
-
-mul-instance-holds : tie.Need-mul-instance-holds
-mul-instance-holds c = search needs
-
-add-instance-holds : tie.Need-add-instance-holds
-add-instance-holds c = search needs
 
 instance-holds-requires : tie.Need-instance-holds-requires
 instance-holds-requires c κs =
@@ -49,13 +31,5 @@ returns-2 c =
 pub line-holds-spec : {M : Type 1} → statement M
 line-holds-spec =
     tie.close
-    (tie.spec
-    rule-at-requires
-    rule-of-requires
-    element-copy-out-if1
-    returns
-    wide-requires
-    mul-instance-holds
-    add-instance-holds
-    instance-holds-requires
-    returns-2)
+    (tie.spec (λ c κs. search needs) (λ c κs. search needs) (λ c. search needs) returns (λ c κs. search needs) (λ c. search needs)
+    (λ c. search needs) instance-holds-requires returns-2)

@@ -9,12 +9,6 @@ use Rattle.certificate.proofs.Reading.{term-variable, term-nil}
 use Rattle.certificate.proofs.checker.position.Statement.{statement}
 use Rattle.certificate.proofs.checker.position.Tie as tie
 
-wide-requires : tie.Need-wide-requires
-wide-requires c κs = search needs
-
-variable-of-requires : tie.Need-variable-of-requires
-variable-of-requires c κs = search needs
-
 returns : tie.Need-returns
 returns c =
     let g = c .before .before .before .args in
@@ -24,4 +18,4 @@ returns-2 : tie.Need-returns-2
 returns-2 c = term-nil (c .before .args .word) (c .before .args .term) (c .if1 .left)
 
 pub position-spec : {M : Type 1} → statement M
-position-spec = tie.close (tie.spec wide-requires variable-of-requires returns returns-2)
+position-spec = tie.close (tie.spec (λ c κs. search needs) (λ c κs. search needs) returns returns-2)

@@ -23,12 +23,6 @@ returns c =
     let l = c .before .before .loop in
     told-false (λ p. omega (arith, positions-first (c .before .before .before .args .n) (l .left) (l .rest) (c .before .loop-test .taken) (l .inv .0 p)))
 
-sub-left : tie.Need-sub-left Inv-loop μ-loop
-sub-left c = search needs
-
-loop-less : tie.Need-loop-less Inv-loop μ-loop
-loop-less c = search needs
-
 loop-again : tie.Need-loop-again Inv-loop μ-loop
 loop-again c =
     let l = c .before .before .loop in
@@ -44,5 +38,4 @@ returns-2 c =
     told-equal (l .rest) 0 (λ e. l .inv .1 (positions-end n (l .left) (l .rest) (omega arith) e)) (λ p. positions-none n (l .left) (l .rest) (omega arith) (l .inv .0 p))
 
 pub positions-fit-spec : {M : Type 1} → statement M
-positions-fit-spec =
-    tie.close (tie.spec Inv-loop μ-loop loop-holds returns sub-left loop-less loop-again returns-2)
+positions-fit-spec = tie.close (tie.spec Inv-loop μ-loop loop-holds returns (λ c. search needs) (λ c. search needs) loop-again returns-2)

@@ -4,27 +4,6 @@ use Rattle.certificate.proofs.Reading.{pure-equal, pure-unequal}
 use Rattle.certificate.proofs.checker.pure_holds.Statement.{statement}
 use Rattle.certificate.proofs.checker.pure_holds.Tie as tie
 
-add-position : tie.Need-add-position
-add-position c = search needs
-
-element-copy-out-position : tie.Need-element-copy-out-position
-element-copy-out-position c = search needs
-
-position-requires : tie.Need-position-requires
-position-requires c κs = search needs
-
-add-position-2 : tie.Need-add-position-2
-add-position-2 c = search needs
-
-element-copy-out-position-2 : tie.Need-element-copy-out-position-2
-element-copy-out-position-2 c = search needs
-
-position-requires-2 : tie.Need-position-requires-2
-position-requires-2 c κs = search needs
-
-element-copy-out-if1 : tie.Need-element-copy-out-if1
-element-copy-out-if1 c = search needs
-
 returns : tie.Need-returns
 returns c =
     let g = c .before .before .before .before .before .before .args in
@@ -38,13 +17,5 @@ returns-2 c =
 pub pure-holds-spec : {M : Type 1} → statement M
 pure-holds-spec =
     tie.close
-    (tie.spec
-    add-position
-    element-copy-out-position
-    position-requires
-    add-position-2
-    element-copy-out-position-2
-    position-requires-2
-    element-copy-out-if1
-    returns
-    returns-2)
+    (tie.spec (λ c. search needs) (λ c. search needs) (λ c κs. search needs) (λ c. search needs) (λ c. search needs) (λ c κs. search needs)
+    (λ c. search needs) returns returns-2)

@@ -17,35 +17,8 @@ Inv-loop rules at word count k₀ k =
 abbrev μ-loop : tie.MeasureT-loop
 μ-loop rules at word count k₀ k = count - k
 
-add-wide : tie.Need-add-wide Inv-loop μ-loop
-add-wide c = search needs
-
-element-copy-out-wide : tie.Need-element-copy-out-wide Inv-loop μ-loop
-element-copy-out-wide c = search needs
-
-wide-requires : tie.Need-wide-requires Inv-loop μ-loop
-wide-requires c κs = search needs
-
 loop-holds : tie.Need-loop-holds Inv-loop μ-loop
 loop-holds c = (omega arith, below-none _)
-
-add-pure-holds : tie.Need-add-pure-holds Inv-loop μ-loop
-add-pure-holds c = search needs
-
-mul-pure-holds : tie.Need-mul-pure-holds Inv-loop μ-loop
-mul-pure-holds c = search needs
-
-add-pure-holds-2 : tie.Need-add-pure-holds-2 Inv-loop μ-loop
-add-pure-holds-2 c = search needs
-
-pure-holds-requires : tie.Need-pure-holds-requires Inv-loop μ-loop
-pure-holds-requires c κs = search needs
-
-add-k : tie.Need-add-k Inv-loop μ-loop
-add-k c = search needs
-
-loop-less : tie.Need-loop-less Inv-loop μ-loop
-loop-less c = search needs
 
 loop-again : tie.Need-loop-again Inv-loop μ-loop
 loop-again c = (omega arith, below-more _ _ (c .before .before .before .loop .inv .1) (c .before .pure-holds .ensures .so (c .if1 .taken)))
@@ -63,19 +36,5 @@ returns-2 c =
 pub pures-hold-spec : {M : Type 1} → statement M
 pures-hold-spec =
     tie.close
-    (tie.spec
-    Inv-loop
-    μ-loop
-    add-wide
-    element-copy-out-wide
-    wide-requires
-    loop-holds
-    add-pure-holds
-    mul-pure-holds
-    add-pure-holds-2
-    pure-holds-requires
-    add-k
-    loop-less
-    loop-again
-    returns
-    returns-2)
+    (tie.spec Inv-loop μ-loop (λ c. search needs) (λ c. search needs) (λ c κs. search needs) loop-holds (λ c. search needs)
+    (λ c. search needs) (λ c. search needs) (λ c κs. search needs) (λ c. search needs) (λ c. search needs) loop-again returns returns-2)

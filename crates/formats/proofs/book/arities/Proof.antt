@@ -45,16 +45,4 @@ returns c =
     whole (countLayout 0 4) (c .before .before .before .before .args .predicates) (l .inv .0) (c .loop-test .left) (l .inv .1)
 
 pub arities-spec : {M : Type 1} → statement M
-arities-spec =
-    tie.close
-    (tie.spec
-    Inv-loop
-    μ-loop
-    loop-holds
-    add-count
-    count-requires
-    add-k
-    loop-less
-    loop-again
-    same-length
-    returns)
+arities-spec = tie.close (tie.spec Inv-loop μ-loop loop-holds add-count count-requires add-k loop-less loop-again same-length returns)

@@ -36,13 +36,4 @@ same-length c = returns c .kept .long
 pub atom-spec : {M : Type 1} → statement M
 atom-spec =
     tie.close
-    (tie.spec
-    named-requires
-    add-count
-    count-requires
-    add-most
-    slice-read-most
-    add-terms
-    terms-requires
-    same-length
-    returns)
+    (tie.spec named-requires add-count count-requires add-most slice-read-most add-terms terms-requires same-length returns)

@@ -47,17 +47,4 @@ returns c =
     whole (atomLayout (a .n)) (a .count) (l .inv .0) (c .loop-test .left) (l .inv .1)
 
 pub atoms-spec : {M : Type 1} → statement M
-atoms-spec =
-    tie.close
-    (tie.spec
-    Inv-loop
-    μ-loop
-    loop-holds
-    mul-atom
-    add-atom
-    atom-requires
-    add-k
-    loop-less
-    loop-again
-    same-length
-    returns)
+atoms-spec = tie.close (tie.spec Inv-loop μ-loop loop-holds mul-atom add-atom atom-requires add-k loop-less loop-again same-length returns)

@@ -80,24 +80,5 @@ same-length c = returns c .kept .long
 pub body-spec : {M : Type 1} → statement M
 body-spec =
     tie.close
-    (tie.spec
-    add-count
-    count-requires
-    add-k
-    slice-read-k
-    add-pures
-    pures-requires
-    add-count-2
-    count-requires-2
-    add-k-2
-    slice-read-k-2
-    add-atoms
-    atoms-requires
-    add-count-3
-    count-requires-3
-    add-k-3
-    slice-read-k-3
-    add-calls
-    calls-requires
-    same-length
-    returns)
+    (tie.spec add-count count-requires add-k slice-read-k add-pures pures-requires add-count-2 count-requires-2 add-k-2 slice-read-k-2
+    add-atoms atoms-requires add-count-3 count-requires-3 add-k-3 slice-read-k-3 add-calls calls-requires same-length returns)

@@ -44,14 +44,5 @@ same-length c = returns c .kept .long
 pub call-spec : {M : Type 1} → statement M
 call-spec =
     tie.close
-    (tie.spec
-    slice-read-predicates
-    named-requires
-    slice-read-predicate
-    cast-predicate
-    add-arity
-    slice-read-arity
-    add-terms
-    terms-requires
-    same-length
-    returns)
+    (tie.spec slice-read-predicates named-requires slice-read-predicate cast-predicate add-arity slice-read-arity add-terms terms-requires
+    same-length returns)

@@ -53,17 +53,4 @@ returns c =
     whole (callLayout (aritiesIn (a .block .now)) (a .n)) (a .count) (l .inv .0) (c .loop-test .left) (l .inv .1)
 
 pub calls-spec : {M : Type 1} → statement M
-calls-spec =
-    tie.close
-    (tie.spec
-    Inv-loop
-    μ-loop
-    loop-holds
-    mul-call
-    add-call
-    call-requires
-    add-k
-    loop-less
-    loop-again
-    same-length
-    returns)
+calls-spec = tie.close (tie.spec Inv-loop μ-loop loop-holds mul-call add-call call-requires add-k loop-less loop-again same-length returns)

@@ -5,15 +5,6 @@ use Rattle.formats.proofs.Keep.{stored}
 use Rattle.formats.proofs.book.count.Statement.{statement}
 use Rattle.formats.proofs.book.count.Tie as tie
 
-ranged-requires : tie.Need-ranged-requires
-ranged-requires c κs = search needs
-
-slice-write-block : tie.Need-slice-write-block
-slice-write-block c = search needs
-
-same-length : tie.Need-same-length
-same-length c = search needs
-
 returns : tie.Need-returns
 returns c =
     let a = c .before .before .before .args in
@@ -21,4 +12,4 @@ returns c =
     stored (λ v. v) (Within (a .least) (a .most)) (a .block .now) (a .at) (e .result .value) (c .before .before .before .pre .1) (e .ensures .reads) (e .ensures .within)
 
 pub count-spec : {M : Type 1} → statement M
-count-spec = tie.close (tie.spec ranged-requires slice-write-block same-length returns)
+count-spec = tie.close (tie.spec (λ c κs. search needs) (λ c. search needs) (λ c. search needs) returns)

@@ -27,6 +27,4 @@ same-length : tie.Need-same-length
 same-length c = returns c .kept .long
 
 pub pure-spec : {M : Type 1} → statement M
-pure-spec =
-    tie.close
-    (tie.spec named-requires add-term term-requires add-term-2 term-requires-2 same-length returns)
+pure-spec = tie.close (tie.spec named-requires add-term term-requires add-term-2 term-requires-2 same-length returns)

@@ -47,17 +47,4 @@ returns c =
     whole (pureLayout (a .n)) (a .count) (l .inv .0) (c .loop-test .left) (l .inv .1)
 
 pub pures-spec : {M : Type 1} → statement M
-pures-spec =
-    tie.close
-    (tie.spec
-    Inv-loop
-    μ-loop
-    loop-holds
-    mul-pure
-    add-pure
-    pure-requires
-    add-k
-    loop-less
-    loop-again
-    same-length
-    returns)
+pures-spec = tie.close (tie.spec Inv-loop μ-loop loop-holds mul-pure add-pure pure-requires add-k loop-less loop-again same-length returns)

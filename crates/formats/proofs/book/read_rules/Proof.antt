@@ -5,12 +5,6 @@ use borrow.Author.Needs.{needs}
 use Rattle.formats.proofs.book.read_rules.Statement.{statement}
 use Rattle.formats.proofs.book.read_rules.Tie as tie
 
-rule-set-requires : tie.Need-rule-set-requires
-rule-set-requires c κs = search needs
-
-finish-requires : tie.Need-finish-requires
-finish-requires c κs = search needs
-
 returns : tie.Need-returns
 unfolding readRuleSet
 returns c =
@@ -21,4 +15,4 @@ same-length : tie.Need-same-length
 same-length c = returns c .long
 
 pub read-rules-spec : {M : Type 1} → statement M
-read-rules-spec = tie.close (tie.spec rule-set-requires finish-requires same-length returns)
+read-rules-spec = tie.close (tie.spec (λ c κs. search needs) (λ c κs. search needs) same-length returns)

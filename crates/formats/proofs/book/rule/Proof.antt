@@ -63,19 +63,5 @@ same-length c = returns c .kept .long
 pub rule-spec : {M : Type 1} → statement M
 rule-spec =
     tie.close
-    (tie.spec
-    slice-read-predicates
-    named-requires
-    slice-read-head
-    cast-head
-    add-arity
-    slice-read-arity
-    add-count
-    sub-count
-    count-requires
-    add-bound
-    slice-read-bound
-    add-body
-    body-requires
-    same-length
-    returns)
+    (tie.spec slice-read-predicates named-requires slice-read-head cast-head add-arity slice-read-arity add-count sub-count count-requires
+    add-bound slice-read-bound add-body body-requires same-length returns)

@@ -38,12 +38,4 @@ same-length c = returns c .long
 pub rule-set-spec : {M : Type 1} → statement M
 rule-set-spec =
     tie.close
-    (tie.spec
-    count-requires
-    slice-read-k
-    arities-requires
-    count-requires-2
-    slice-read-k-2
-    rules-requires
-    same-length
-    returns)
+    (tie.spec count-requires slice-read-k arities-requires count-requires-2 slice-read-k-2 rules-requires same-length returns)

@@ -53,17 +53,4 @@ returns c =
     whole (ruleLayout (aritiesIn (a .block .now))) (a .count) (l .inv .0) (c .loop-test .left) (l .inv .1)
 
 pub rules-spec : {M : Type 1} → statement M
-rules-spec =
-    tie.close
-    (tie.spec
-    Inv-loop
-    μ-loop
-    loop-holds
-    mul-rule
-    add-rule
-    rule-requires
-    add-k
-    loop-less
-    loop-again
-    same-length
-    returns)
+rules-spec = tie.close (tie.spec Inv-loop μ-loop loop-holds mul-rule add-rule rule-requires add-k loop-less loop-again same-length returns)

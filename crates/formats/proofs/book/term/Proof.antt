@@ -7,25 +7,10 @@ use Rattle.formats.proofs.Naming.{term-nil, term-var, term-off}
 use Rattle.formats.proofs.book.term.Statement.{statement}
 use Rattle.formats.proofs.book.term.Tie as tie
 
-byte-requires : tie.Need-byte-requires
-byte-requires c κs = search needs
-
-slice-write-block : tie.Need-slice-write-block
-slice-write-block c = search needs
-
-same-length : tie.Need-same-length
-same-length c = search needs
-
 returns : tie.Need-returns
 returns c =
     let a = c .before .before .before .before .args in
     stored termIn Any (a .block .now) (a .at) 128 (c .before .before .before .before .pre .1) (term-nil (a .s .now) (a .c) _ (a .n) _ (c .before .byte .ensures) (c .if1 .taken)) tt
-
-slice-write-block-2 : tie.Need-slice-write-block-2
-slice-write-block-2 c = search needs
-
-same-length-2 : tie.Need-same-length-2
-same-length-2 c = search needs
 
 returns-2 : tie.Need-returns-2
 returns-2 c =
@@ -33,9 +18,6 @@ returns-2 c =
     let p = c .before .before .before .before .before .pre in
     let e = c .before .before .byte in
     stored termIn Any (a .block .now) (a .at) (e .result .value) (p .1) (term-var (a .s .now) (a .c) _ (a .n) _ (e .ensures) (c .before .if1 .left) (c .if2 .taken) (p .0)) tt
-
-stop-requires : tie.Need-stop-requires
-stop-requires c κs = search needs
 
 returns-3 : tie.Need-returns-3
 returns-3 c =
@@ -50,13 +32,5 @@ returns-3 c =
 pub term-spec : {M : Type 1} → statement M
 term-spec =
     tie.close
-    (tie.spec
-    byte-requires
-    slice-write-block
-    same-length
-    returns
-    slice-write-block-2
-    same-length-2
-    returns-2
-    stop-requires
-    returns-3)
+    (tie.spec (λ c κs. search needs) (λ c. search needs) (λ c. search needs) returns (λ c. search needs) (λ c. search needs) returns-2
+    (λ c κs. search needs) returns-3)

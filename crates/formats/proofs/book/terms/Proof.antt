@@ -17,17 +17,8 @@ abbrev μ-loop : tie.MeasureT-loop
 loop-holds : tie.Need-loop-holds Inv-loop μ-loop
 loop-holds c = let a = c .before .before .args in (omega arith, none (termLayout (a .n)) (a .from) _ _ _)
 
-add-term : tie.Need-add-term Inv-loop μ-loop
-add-term c = search needs
-
 term-requires : tie.Need-term-requires Inv-loop μ-loop
 term-requires c κs = let p = c .before .before .before .before .before .pre in (p .0, rw (c .before .before .loop .inv .1 .kept .long) (omega arith))
-
-add-k : tie.Need-add-k Inv-loop μ-loop
-add-k c = search needs
-
-loop-less : tie.Need-loop-less Inv-loop μ-loop
-loop-less c = search needs
 
 loop-again : tie.Need-loop-again Inv-loop μ-loop
 loop-again c =
@@ -47,14 +38,5 @@ returns c =
 pub terms-spec : {M : Type 1} → statement M
 terms-spec =
     tie.close
-    (tie.spec
-    Inv-loop
-    μ-loop
-    loop-holds
-    add-term
-    term-requires
-    add-k
-    loop-less
-    loop-again
-    same-length
+    (tie.spec Inv-loop μ-loop loop-holds (λ c. search needs) term-requires (λ c. search needs) (λ c. search needs) loop-again same-length
     returns)

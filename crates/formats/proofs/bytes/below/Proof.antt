@@ -5,17 +5,11 @@ use Rattle.formats.proofs.Chain.{chain, passed, failed}
 use Rattle.formats.proofs.bytes.below.Statement.{statement}
 use Rattle.formats.proofs.bytes.below.Tie as tie
 
-byte-requires : tie.Need-byte-requires
-byte-requires c κs = search needs
-
 returns : tie.Need-returns
 returns c =
     let a = c .before .before .before .args in
     let l = c .if1 .taken in
     record { reads = chain _ (c .before .byte .ensures) (passed (a .s .now) _ _ (a .fault) _ (lt-ltb _ _ l)); small = λ _. l }
-
-stop-requires : tie.Need-stop-requires
-stop-requires c κs = search needs
 
 returns-2 : tie.Need-returns-2
 returns-2 c =
@@ -26,4 +20,4 @@ returns-2 c =
     }
 
 pub below-spec : {M : Type 1} → statement M
-below-spec = tie.close (tie.spec byte-requires returns stop-requires returns-2)
+below-spec = tie.close (tie.spec (λ c κs. search needs) returns (λ c κs. search needs) returns-2)

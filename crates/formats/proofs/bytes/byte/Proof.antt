@@ -4,15 +4,6 @@ use Rattle.formats.proofs.Left.{next-yields}
 use Rattle.formats.proofs.bytes.byte.Statement.{statement}
 use Rattle.formats.proofs.bytes.byte.Tie as tie
 
-enum-known-c : tie.Need-enum-known-c
-enum-known-c c = search needs
-
-read-at-requires : tie.Need-read-at-requires
-read-at-requires c κs = search needs
-
-enum-known-c-2 : tie.Need-enum-known-c-2
-enum-known-c-2 c = search needs
-
 returns : tie.Need-returns
 returns c =
     let a = c .before .before .before .before .before .args in
@@ -22,4 +13,4 @@ returns-2 : tie.Need-returns-2
 returns-2 c = record { is = rw (c .before .c2 .given .1) }
 
 pub byte-spec : {M : Type 1} → statement M
-byte-spec = tie.close (tie.spec enum-known-c read-at-requires enum-known-c-2 returns returns-2)
+byte-spec = tie.close (tie.spec (λ c. search needs) (λ c κs. search needs) (λ c. search needs) returns returns-2)

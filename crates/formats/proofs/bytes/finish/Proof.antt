@@ -4,25 +4,10 @@ use Rattle.formats.proofs.Left.{one-more, none-left}
 use Rattle.formats.proofs.bytes.finish.Statement.{statement}
 use Rattle.formats.proofs.bytes.finish.Tie as tie
 
-enum-known-c : tie.Need-enum-known-c
-enum-known-c c = search needs
-
-read-at-requires : tie.Need-read-at-requires
-read-at-requires c κs = search needs
-
-enum-told : tie.Need-enum-told
-enum-told c = search needs
-
 returns : tie.Need-returns
 returns c =
     let a = c .before .before .before .before .before .before .before .args in
     one-more (a .more) (a .s .now) (c .before .before .before .before .c .given .1) (c .before .before .read-at .ensures) (c .enum-told .given .1)
-
-enum-told-2 : tie.Need-enum-told-2
-enum-told-2 c = search needs
-
-enum-known-c-2 : tie.Need-enum-known-c-2
-enum-known-c-2 c = search needs
 
 returns-2 : tie.Need-returns-2
 returns-2 c =
@@ -33,4 +18,7 @@ returns-3 : tie.Need-returns-3
 returns-3 c = rw (c .before .c2 .given .1)
 
 pub finish-spec : {M : Type 1} → statement M
-finish-spec = tie.close (tie.spec enum-known-c read-at-requires enum-told returns enum-told-2 enum-known-c-2 returns-2 returns-3)
+finish-spec =
+    tie.close
+    (tie.spec (λ c. search needs) (λ c κs. search needs) (λ c. search needs) returns (λ c. search needs) (λ c. search needs) returns-2
+    returns-3)

@@ -6,9 +6,6 @@ use Rattle.formats.proofs.Chain.{chain, passed, failed, over}
 use Rattle.formats.proofs.bytes.ranged.Statement.{statement}
 use Rattle.formats.proofs.bytes.ranged.Tie as tie
 
-byte-requires : tie.Need-byte-requires
-byte-requires c κs = search needs
-
 returns : tie.Need-returns
 returns c =
     let a = c .before .before .before .before .args in
@@ -18,9 +15,6 @@ returns c =
           (chain _ (passed (a .s .now) _ _ (a .range) _ (le-leb _ _ (c .before .if1 .taken))) (passed (a .s .now) _ _ (a .range) _ (le-leb _ _ (c .if2 .taken))));
       within = record { low = c .before .if1 .taken; high = c .if2 .taken };
     }
-
-stop-requires : tie.Need-stop-requires
-stop-requires c κs = search needs
 
 returns-2 : tie.Need-returns-2
 returns-2 c =
@@ -39,4 +33,4 @@ returns-2 c =
     }
 
 pub ranged-spec : {M : Type 1} → statement M
-ranged-spec = tie.close (tie.spec byte-requires returns stop-requires returns-2)
+ranged-spec = tie.close (tie.spec (λ c κs. search needs) returns (λ c κs. search needs) returns-2)

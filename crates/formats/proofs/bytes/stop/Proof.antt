@@ -3,12 +3,6 @@ use borrow.Author.Needs.{needs}
 use Rattle.formats.proofs.bytes.stop.Statement.{statement}
 use Rattle.formats.proofs.bytes.stop.Tie as tie
 
-enum-told : tie.Need-enum-told
-enum-told c = search needs
-
-enum-known-c : tie.Need-enum-known-c
-enum-known-c c = search needs
-
 returns : tie.Need-returns
 returns c = rw (c .enum-told .given .1)
 
@@ -16,4 +10,4 @@ returns-2 : tie.Need-returns-2
 returns-2 c = rw (c .before .c .given .1)
 
 pub stop-spec : {M : Type 1} → statement M
-stop-spec = tie.close (tie.spec enum-told enum-known-c returns returns-2)
+stop-spec = tie.close (tie.spec (λ c. search needs) (λ c. search needs) returns returns-2)

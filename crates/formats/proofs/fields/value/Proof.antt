@@ -7,12 +7,6 @@ use borrow.Author.Needs.{needs}
 use Rattle.formats.proofs.fields.value.Statement.{statement}
 use Rattle.formats.proofs.fields.value.Tie as tie
 
-word-requires : tie.Need-word-requires
-word-requires c κs = search needs
-
-as-read-requires : tie.Need-as-read-requires
-as-read-requires c κs = search needs
-
 mul-block : tie.Need-mul-block
 mul-block c = omega (arith, c .before .before .before .before .good .1 .1 .0)
 
@@ -28,6 +22,4 @@ same-length : tie.Need-same-length
 same-length c = returns c .kept .long
 
 pub value-spec : {M : Type 1} → statement M
-value-spec =
-    tie.close
-    (tie.spec word-requires as-read-requires mul-block slice-write-block same-length returns)
+value-spec = tie.close (tie.spec (λ c κs. search needs) (λ c κs. search needs) mul-block slice-write-block same-length returns)

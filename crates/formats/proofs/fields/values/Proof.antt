@@ -45,16 +45,4 @@ returns c =
     whole (valueLayout (a .short)) (a .count) (l .inv .0) (c .loop-test .left) (l .inv .1)
 
 pub values-spec : {M : Type 1} → statement M
-values-spec =
-    tie.close
-    (tie.spec
-    Inv-loop
-    μ-loop
-    loop-holds
-    add-value
-    value-requires
-    add-k
-    loop-less
-    loop-again
-    same-length
-    returns)
+values-spec = tie.close (tie.spec Inv-loop μ-loop loop-holds add-value value-requires add-k loop-less loop-again same-length returns)

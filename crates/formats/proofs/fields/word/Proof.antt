@@ -5,35 +5,11 @@ use borrow.Author.Needs.{needs}
 use Rattle.formats.proofs.fields.word.Statement.{statement}
 use Rattle.formats.proofs.fields.word.Tie as tie
 
-byte-requires : tie.Need-byte-requires
-byte-requires c κs = search needs
-
-byte-requires-2 : tie.Need-byte-requires-2
-byte-requires-2 c κs = search needs
-
-byte-requires-3 : tie.Need-byte-requires-3
-byte-requires-3 c κs = search needs
-
-byte-requires-4 : tie.Need-byte-requires-4
-byte-requires-4 c κs = search needs
-
-wide-requires : tie.Need-wide-requires
-wide-requires c κs = search needs
-
-wide-requires-2 : tie.Need-wide-requires-2
-wide-requires-2 c κs = search needs
-
 mul-low : tie.Need-mul-low
 mul-low c = omega arith
 
 add-low : tie.Need-add-low
 add-low c = omega arith
-
-wide-requires-3 : tie.Need-wide-requires-3
-wide-requires-3 c κs = search needs
-
-wide-requires-4 : tie.Need-wide-requires-4
-wide-requires-4 c κs = search needs
 
 mul-high : tie.Need-mul-high
 mul-high c = omega arith
@@ -56,19 +32,5 @@ returns c =
 pub word-spec : {M : Type 1} → statement M
 word-spec =
     tie.close
-    (tie.spec
-    byte-requires
-    byte-requires-2
-    byte-requires-3
-    byte-requires-4
-    wide-requires
-    wide-requires-2
-    mul-low
-    add-low
-    wide-requires-3
-    wide-requires-4
-    mul-high
-    add-high
-    mul-t14
-    add-t15
-    returns)
+    (tie.spec (λ c κs. search needs) (λ c κs. search needs) (λ c κs. search needs) (λ c κs. search needs) (λ c κs. search needs)
+    (λ c κs. search needs) mul-low add-low (λ c κs. search needs) (λ c κs. search needs) mul-high add-high mul-t14 add-t15 returns)

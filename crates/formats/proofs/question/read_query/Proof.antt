@@ -13,12 +13,6 @@ use Rattle.formats.proofs.question.read_query.Tie as tie
 element-copy-out-predicates : tie.Need-element-copy-out-predicates
 element-copy-out-predicates c = omega arith
 
-below-requires : tie.Need-below-requires
-below-requires c κs = search needs
-
-cast-predicate : tie.Need-cast-predicate
-cast-predicate c = search needs
-
 add-arity : tie.Need-add-arity
 add-arity c = let p = c .before .before .before .before .before .pre .0 in omega (arith, c .before .below .ensures .small (p .some), p .few)
 
@@ -27,12 +21,6 @@ element-copy-out-arity c = let p = c .before .before .before .before .before .pr
 
 ranged-requires : tie.Need-ranged-requires
 ranged-requires c κs = omega arith
-
-wide-requires : tie.Need-wide-requires
-wide-requires c κs = search needs
-
-wide-requires-2 : tie.Need-wide-requires-2
-wide-requires-2 c κs = search needs
 
 slice-write-query : tie.Need-slice-write-query
 slice-write-query c = omega (arith, c .before .before .before .before .before .before .before .before .before .pre .1)
@@ -46,9 +34,6 @@ values-requires c κs =
     let name = c .before .before .before .before .before .before .below in
     simp length-set
     (omega (arith, c .before .before .before .before .before .before .before .before .before .before .pre .1, c .before .before .wide .ensures .0, c .before .before .before .ranged .ensures .within .high, p .each (name .result .value) (name .ensures .small (p .some))))
-
-finish-requires : tie.Need-finish-requires
-finish-requires c κs = search needs
 
 returns : tie.Need-returns
 unfolding readQuery
@@ -71,4 +56,8 @@ same-length : tie.Need-same-length
 same-length c = returns c .long
 
 pub read-query-spec : {M : Type 1} → statement M
-read-query-spec = tie.close (tie.spec element-copy-out-predicates below-requires cast-predicate add-arity element-copy-out-arity ranged-requires wide-requires wide-requires-2 slice-write-query slice-write-query-2 values-requires finish-requires same-length returns)
+read-query-spec =
+    tie.close
+    (tie.spec element-copy-out-predicates (λ c κs. search needs) (λ c. search needs) add-arity element-copy-out-arity ranged-requires
+    (λ c κs. search needs) (λ c κs. search needs) slice-write-query slice-write-query-2 values-requires (λ c κs. search needs) same-length
+    returns)

@@ -7,9 +7,6 @@ use borrow.Author.Needs.{needs}
 use Rattle.formats.proofs.snapshot.address.Statement.{statement}
 use Rattle.formats.proofs.snapshot.address.Tie as tie
 
-word-requires : tie.Need-word-requires
-word-requires c κs = search needs
-
 mul-heap : tie.Need-mul-heap
 mul-heap c = omega (arith, c .before .before .before .before .good .1 .1 .0)
 
@@ -22,9 +19,6 @@ returns c =
     let w = c .before .word in
     stored (λ v. v) Any (a .heap .now) (a .at) (w .result .value) (c .before .before .before .before .pre) (address-above (a .low) (w .ensures) (c .if1 .taken)) tt
 
-stop-requires : tie.Need-stop-requires
-stop-requires c κs = search needs
-
 returns-2 : tie.Need-returns-2
 returns-2 c =
     let a = c .before .before .before .before .before .args in
@@ -34,6 +28,4 @@ same-length : tie.Need-same-length
 same-length c = returns c .kept .long
 
 pub address-spec : {M : Type 1} → statement M
-address-spec =
-    tie.close
-    (tie.spec word-requires mul-heap slice-write-heap same-length returns stop-requires returns-2)
+address-spec = tie.close (tie.spec (λ c κs. search needs) mul-heap slice-write-heap same-length returns (λ c κs. search needs) returns-2)

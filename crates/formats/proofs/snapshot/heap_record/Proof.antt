@@ -37,4 +37,6 @@ same-length : tie.Need-same-length
 same-length c = returns c .kept .long
 
 pub heap-record-spec : {M : Type 1} → statement M
-heap-record-spec = tie.close (tie.spec address-requires add-size size-requires add-k mul-k slice-read-k add-values values-requires same-length returns)
+heap-record-spec =
+    tie.close
+    (tie.spec address-requires add-size size-requires add-k mul-k slice-read-k add-values values-requires same-length returns)

@@ -17,9 +17,6 @@ slice-read-k c = omega (arith, c .before .before .before .before .before .before
 records-requires : tie.Need-records-requires
 records-requires c κs = omega (arith, c .before .before .before .before .before .before .before .before .pre, c .before .before .before .before .size .ensures .sized .high, c .before .before .before .before .size .ensures .kept .long)
 
-finish-requires : tie.Need-finish-requires
-finish-requires c κs = search needs
-
 returns : tie.Need-returns
 unfolding readSnapshot
 returns c =
@@ -31,4 +28,4 @@ same-length : tie.Need-same-length
 same-length c = returns c .long
 
 pub read-heap-spec : {M : Type 1} → statement M
-read-heap-spec = tie.close (tie.spec size-requires slice-read-k records-requires finish-requires same-length returns)
+read-heap-spec = tie.close (tie.spec size-requires slice-read-k records-requires (λ c κs. search needs) same-length returns)

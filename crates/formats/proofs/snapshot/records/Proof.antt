@@ -58,4 +58,7 @@ returns c =
     records-whole (c .before .before .before .before .args .count) (l .inv .0) (c .loop-test .left) (l .inv .2)
 
 pub records-spec : {M : Type 1} → statement M
-records-spec = tie.close (tie.spec Inv-loop μ-loop loop-holds mul-heap-record add-heap-record heap-record-requires mul-low add-low mul-low-2 slice-read-low add-k loop-less loop-again same-length returns)
+records-spec =
+    tie.close
+    (tie.spec Inv-loop μ-loop loop-holds mul-heap-record add-heap-record heap-record-requires mul-low add-low mul-low-2 slice-read-low add-k
+    loop-less loop-again same-length returns)

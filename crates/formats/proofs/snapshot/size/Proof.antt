@@ -10,9 +10,6 @@ use Rattle.formats.proofs.snapshot.size.Tie as tie
 ranged-requires : tie.Need-ranged-requires
 ranged-requires c κs = omega arith
 
-wide-requires : tie.Need-wide-requires
-wide-requires c κs = search needs
-
 mul-heap : tie.Need-mul-heap
 mul-heap c = omega (arith, c .before .before .before .before .good .1 .1 .0)
 
@@ -30,6 +27,4 @@ same-length : tie.Need-same-length
 same-length c = returns c .kept .long
 
 pub size-spec : {M : Type 1} → statement M
-size-spec =
-    tie.close
-    (tie.spec ranged-requires wide-requires mul-heap slice-write-heap same-length returns)
+size-spec = tie.close (tie.spec ranged-requires (λ c κs. search needs) mul-heap slice-write-heap same-length returns)
