@@ -6,7 +6,7 @@ use native.Mathlib.Omega.{arith}
 use lib.Bits.{bitAnd, and-zero-l, and-zero-r, or-lt, or-disjoint}
 use Rattle.semantics.specs.Heap.{Joins}
 use Rattle.semantics.specs.Lists.{_among_}
-use Rattle.search.proofs.Disjoint.{apart-split, apart-join}
+use Rattle.words.proofs.Disjoint.{apart-split, apart-join}
 
 -- The subheaps, joined one by one to those used, make up the whole.
 pub data Onto : List ℕ → ℕ → ℕ → Type 0 where

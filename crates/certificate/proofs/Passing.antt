@@ -14,7 +14,8 @@ use Rattle.semantics.specs.Fact.{code, partOf}
 use Rattle.semantics.specs.Heap.{Record}
 use Rattle.semantics.specs.RuleSet.{Call}
 use Rattle.semantics.specs.Tree.{valuesOf, asked}
-use Rattle.words.specs.Block.{tabulate, atomIn, callIn, ruleIn}
+use Rattle.words.specs.Entries.{tabulate}
+use Rattle.block.specs.Layout.{atomIn, callIn, ruleIn}
 use Rattle.words.specs.Subheap.{Told}
 use Rattle.words.proofs.Tabulate.{tabulate-length, tabulate-at}
 use Rattle.certificate.specs.Line.{givenBy, RuleAt, CallAt, FirstRecord, FoundRecord, CallsLine, CallsJoin, AtomsJoin}

@@ -16,7 +16,8 @@ use Rattle.semantics.specs.Heap.{Record}
 use Rattle.semantics.specs.Lists.{digits}
 use Rattle.semantics.specs.Tree.{valueOf, valuesOf, Compare, Meets, asked}
 use Rattle.semantics.proofs.Digits.{digitsOf-length}
-use Rattle.words.specs.Block.{tabulate, entries, termIn, kindIn, pureIn, atomIn, recordIn}
+use Rattle.words.specs.Entries.{tabulate, entries}
+use Rattle.block.specs.Layout.{termIn, kindIn, pureIn, atomIn, recordIn}
 use Rattle.words.specs.Subheap.{Told}
 use Rattle.words.proofs.Tabulate.{tabulate-length, tabulate-at, tabulate-same, tabulate-map}
 use Rattle.certificate.specs.Line.{givenBy}

@@ -8,7 +8,8 @@ use lib.Seq.{drop-cons}
 use Rattle.semantics.specs.Lists.{_among_}
 use Rattle.semantics.specs.Heap.{Record, blank, recordValues, heapValues, WellFormedHeap}
 use Rattle.semantics.proofs.DomainFacts.{heap-length}
-use Rattle.words.specs.Block.{tabulate, recordIn, heapIn}
+use Rattle.words.specs.Entries.{tabulate}
+use Rattle.block.specs.Layout.{recordIn, heapIn}
 use Rattle.words.proofs.Tabulate.{entries-length, tabulate-length, tabulate-at, tabulate-in}
 use Rattle.domain.specs.Insertion.{Room, Inserted}
 use Rattle.domain.proofs.Insertion.{inserted-none, inserted-also, inserted-room}

@@ -5,7 +5,8 @@ use mathlib.Core.Logic.{_⊎_}
 use Prim.Native.Nat.{ℕ, _+_, _≤_, _<_}
 use lib.ListN.{length, getD}
 use Rattle.semantics.specs.Fact.{position}
-use Rattle.words.specs.Block.{entries, heapIn, positioned}
+use Rattle.words.specs.Entries.{entries}
+use Rattle.block.specs.Layout.{heapIn, positioned}
 use Rattle.domain.specs.Spare.{queryValues}
 
 -- The record at `at` of the block `records` is that of the block `heap` in positions.

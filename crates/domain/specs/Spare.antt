@@ -6,7 +6,8 @@ use lib.ListN.{length, getD, take}
 use Rattle.semantics.specs.Lists.{_among_}
 use Rattle.semantics.specs.Heap.{WellFormedHeap, heapValues}
 use Rattle.semantics.specs.Domain.{spares, ascending}
-use Rattle.words.specs.Block.{entries, heapIn}
+use Rattle.words.specs.Entries.{entries}
+use Rattle.block.specs.Layout.{heapIn}
 
 abbrev pub queryValues : List ℕ → List ℕ
 queryValues query = entries query 2 (getD query 1 0)

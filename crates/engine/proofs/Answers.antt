@@ -8,7 +8,7 @@ use Rattle.semantics.specs.Formats.{WellFormedInput}
 use Rattle.semantics.specs.Contract.{CertificateInput, Checked}
 use Rattle.semantics.proofs.FormatsFacts.{ladder-read}
 use Rattle.words.specs.Subheap.{Told}
-use Rattle.words.specs.Block.{inputIn}
+use Rattle.block.specs.Layout.{inputIn}
 use Rattle.formats.specs.Refusal.{Read}
 use Rattle.formats.proofs.Answers.{is-accepted, is-refused, accepted-long}
 use Rattle.formats.specs.declared.Ladder.{Ladder}

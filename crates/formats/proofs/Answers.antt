@@ -6,7 +6,7 @@ use native.Mathlib.Omega.{arith}
 use lib.ListN.{length}
 use Rattle.semantics.specs.Reader.{accepted, refused}
 use Rattle.semantics.specs.Formats.{ladder}
-use Rattle.words.specs.Block.{inputIn}
+use Rattle.block.specs.Layout.{inputIn}
 use Rattle.formats.specs.Refusal.{Read}
 use Rattle.formats.specs.Refusal.Read.{refuses, accepts}
 use Rattle.formats.specs.declared.Ladder.the-variants.{Accepted, Refused}

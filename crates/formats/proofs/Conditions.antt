@@ -8,7 +8,8 @@ use lib.ListN.{getD}
 use Rattle.semantics.specs.Reader.{times}
 use Rattle.semantics.specs.Formats.{term}
 use Rattle.words.proofs.Tabulate.{tabulate-map}
-use Rattle.words.specs.Block.{tabulate, entries, termIn}
+use Rattle.words.specs.Entries.{tabulate, entries}
+use Rattle.block.specs.Layout.{termIn}
 use Rattle.formats.specs.Layout.{Fills, many, countLayout, nameLayout, termLayout, pureLayout, atomLayout, Header, aritiesIn, callLayout}
 use Rattle.formats.specs.declared.Cursor.{Cursor}
 use Rattle.formats.proofs.Heading.{arities-length, name-small, arity-few, arity-read}

@@ -5,7 +5,7 @@ use Prim.Native.Nat.{ℕ}
 use lib.ListN.{length, drop}
 use Rattle.semantics.specs.Reader.{Got, got, Reader, accepted, refused, all}
 use Rattle.semantics.specs.Formats.{readRuleSet, readSnapshot, readQuery, ladder}
-use Rattle.words.specs.Block.{ruleSetIn, heapIn, inputIn}
+use Rattle.block.specs.Layout.{ruleSetIn, heapIn, inputIn}
 use Rattle.formats.specs.Cursor.{upto, Yields}
 use Rattle.formats.specs.Layout.{aritiesIn}
 use Rattle.formats.specs.Refusal.{resultOf, unlessMore, finished, queryIn, Read}

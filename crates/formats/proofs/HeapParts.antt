@@ -9,7 +9,8 @@ use lib.ListN.{getD}
 use Rattle.semantics.specs.Heap.{Record, Heap}
 use Rattle.semantics.specs.Reader.{Got, got, fault, onward, _>>=_, give, counted}
 use Rattle.semantics.specs.Formats.{value, address, records, snapshot}
-use Rattle.words.specs.Block.{tabulate, recordIn, heapIn}
+use Rattle.words.specs.Entries.{tabulate}
+use Rattle.block.specs.Layout.{recordIn, heapIn}
 use Rattle.words.proofs.Tabulate.{tabulate-more}
 use Rattle.formats.specs.Cursor.{Yields}
 use Rattle.formats.specs.HeapLayout.{valueLayout, addressLayout, sizeLayout, record-above, recordLayout, recordsLayout}

@@ -5,7 +5,8 @@ use Prim.Native.Nat.{ℕ, _+_, _*_, _≤_, _<_}
 use native.Mathlib.Omega.{arith}
 use lib.ListN.{getD}
 use Rattle.semantics.specs.Formats.{term}
-use Rattle.words.specs.Block.{tabulate, entries, termIn, callIn, ruleIn}
+use Rattle.words.specs.Entries.{tabulate, entries}
+use Rattle.block.specs.Layout.{termIn, callIn, ruleIn}
 use Rattle.words.proofs.Tabulate.{tabulate-same}
 use Rattle.formats.specs.Cursor.{rangedByte, Within}
 use Rattle.formats.specs.Layout.{Any, countLayout, termLayout, pureLayout, atomLayout, CallSized, callLayout, RuleSized, ruleLayout}

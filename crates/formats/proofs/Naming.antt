@@ -8,7 +8,7 @@ use borrow.Author.Tests.{lt-ltb, le-ltb, eq-eqb, ne-eqb}
 use Rattle.semantics.specs.RuleSet.{Term, var, fixed}
 use Rattle.semantics.specs.Reader.{onward, give, byte}
 use Rattle.semantics.specs.Formats.{named, termOf, term, kind}
-use Rattle.words.specs.Block.{termIn, kindIn}
+use Rattle.block.specs.Layout.{termIn, kindIn}
 use Rattle.formats.specs.Cursor.{Yields, stopped}
 use Rattle.formats.specs.declared.Cursor.{Cursor}
 use Rattle.formats.proofs.Chain.{chain, done, passed, failed, become, alike}

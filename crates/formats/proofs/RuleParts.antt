@@ -13,7 +13,7 @@ use lib.ListN.{getD}
 use Rattle.semantics.specs.RuleSet.{Rule}
 use Rattle.semantics.specs.Reader.{Reader, onward, _>>=_, byte, ensure, times}
 use Rattle.semantics.specs.Formats.{named, pure, atom, call, body}
-use Rattle.words.specs.Block.{ruleIn}
+use Rattle.block.specs.Layout.{ruleIn}
 use Rattle.formats.specs.Cursor.{Yields, rangedByte}
 use Rattle.formats.specs.Layout.{Layout, Kept, Fills, many, countLayout, nameLayout, pureLayout, atomLayout, callLayout, Header, aritiesIn, Body, ruleLayout}
 use Rattle.formats.specs.declared.Cursor.{Cursor}

@@ -10,7 +10,7 @@ use native.Mathlib.Omega.{arith}
 use native.Mathlib.Decide.{decLt}
 use lib.ListN.{getD}
 use Rattle.semantics.specs.Reader.{Reader}
-use Rattle.words.specs.Block.{tabulate}
+use Rattle.words.specs.Entries.{tabulate}
 use Rattle.words.proofs.Tabulate.{tabulate-more, tabulate-same}
 use Rattle.formats.specs.Cursor.{Yields}
 use Rattle.formats.specs.Layout.{Layout, Kept, Fills, single, row, many}

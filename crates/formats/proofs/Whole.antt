@@ -9,7 +9,8 @@ use lib.ListN.{getD}
 use lib.Dec.{leb}
 use Rattle.semantics.specs.Reader.{Reader, onward, ensure, times}
 use Rattle.semantics.specs.Formats.{arguments, predicates, rule}
-use Rattle.words.specs.Block.{entries, ruleSetIn}
+use Rattle.words.specs.Entries.{entries}
+use Rattle.block.specs.Layout.{ruleSetIn}
 use Rattle.formats.specs.Cursor.{Yields, rangedByte}
 use Rattle.formats.specs.Layout.{Fills, many, countLayout, ruleLayout, Header, aritiesIn, RuleSetFills}
 use Rattle.formats.specs.declared.Cursor.{Cursor}

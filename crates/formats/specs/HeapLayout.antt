@@ -4,7 +4,7 @@ use lib.ListN.{getD}
 use Rattle.semantics.specs.Heap.{Record, Heap}
 use Rattle.semantics.specs.Reader.{Reader, _>>=_, give, counted}
 use Rattle.semantics.specs.Formats.{value, address, records}
-use Rattle.words.specs.Block.{recordIn}
+use Rattle.block.specs.Layout.{recordIn}
 use Rattle.formats.specs.Cursor.{rangedByte, Within}
 use Rattle.formats.specs.Layout.{Layout, single, row, Any}
 

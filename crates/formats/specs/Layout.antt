@@ -7,7 +7,8 @@ use lib.ListN.{length, getD}
 use Rattle.semantics.specs.RuleSet.{Term, Pure, PointsTo, Call, Rule}
 use Rattle.semantics.specs.Reader.{Reader, times}
 use Rattle.semantics.specs.Formats.{named, term, pure, atom, call, body, rule, ruleSet}
-use Rattle.words.specs.Block.{tabulate, entries, termIn, pureIn, atomIn, callIn, ruleIn, ruleSetIn}
+use Rattle.words.specs.Entries.{tabulate, entries}
+use Rattle.block.specs.Layout.{termIn, pureIn, atomIn, callIn, ruleIn, ruleSetIn}
 use Rattle.formats.specs.Cursor.{Yields, rangedByte, Within, Names}
 use Rattle.formats.specs.declared.Cursor.{Cursor}
 

@@ -5,7 +5,8 @@ use Prim.Native.Nat.{ℕ}
 use lib.ListN.{length, getD, drop}
 use Rattle.semantics.specs.Reader.{Result, accepted, refused}
 use Rattle.semantics.specs.Formats.{readRuleSet, readSnapshot, Query, readQuery, ladder}
-use Rattle.words.specs.Block.{entries, ruleSetIn, heapIn, inputIn}
+use Rattle.words.specs.Entries.{entries}
+use Rattle.block.specs.Layout.{ruleSetIn, heapIn, inputIn}
 use Rattle.formats.specs.Layout.{Header}
 use Rattle.formats.specs.declared.Cursor.{Cursor}
 use Rattle.formats.specs.declared.Cursor.the-variants.{At, Fault}

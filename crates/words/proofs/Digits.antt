@@ -7,7 +7,7 @@ use native.Mathlib.Nat.{div-one}
 use lib.ListN.{getD}
 use lib.Pow.{shr-shr, field, mod-mod-pow}
 use Rattle.semantics.specs.Lists.{digits, digitsOf, zeros}
-use Rattle.words.specs.Block.{tabulate}
+use Rattle.words.specs.Entries.{tabulate}
 
 -- digit k is what a shift by k digits leaves lowest
 pub digit-at : (bits n w k : ℕ) → k < n → getD (digitsOf (2 ^ bits) n w) k 0 ≡ w / 2 ^ (bits * k) % 2 ^ bits

@@ -1,3 +1,4 @@
-pub mod Tabulate
-pub mod Subheap
 pub mod Digits
+pub mod Disjoint
+pub mod Subheap
+pub mod Tabulate

@@ -1,2 +1,2 @@
-pub mod Block
+pub mod Entries
 pub mod Subheap

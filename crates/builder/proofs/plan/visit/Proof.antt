@@ -1,13 +1,12 @@
 -- `visit` meets its contract. `ground` gives a line from the facts of earlier rounds, which are those before the first place of the
 -- round; its words are written and its called places marked.
 use Prim.Native.Nat.{_+_, _*_}
-use lib.ListN.{set}
+use lib.ListN.{set, length-set}
 use Rattle.builder.specs.Space.{calledAt}
 use mathlib.Core.Path.{_∙_}
 use Rattle.builder.proofs.Layers.{supplied-grounded}
 use Rattle.builder.proofs.Planning.{three-marks, written-long}
 use native.Mathlib.Omega.{arith}
-use lib.ListN.{length-set}
 use borrow.Author.Needs.{needs}
 use Rattle.builder.proofs.plan.visit.Statement.{statement}
 use Rattle.builder.proofs.plan.visit.Tie as tie

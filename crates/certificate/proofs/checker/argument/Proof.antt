@@ -3,7 +3,7 @@ use borrow.Author.Needs.{needs}
 use mathlib.Core.Path.{_∙_}
 use Prim.Native.Nat.{_+_}
 use native.Mathlib.Omega.{arith}
-use Rattle.search.specs.InBlock.{headArity}
+use Rattle.block.specs.Ready.{headArity}
 use Rattle.certificate.proofs.Reading.{argument-at, argument-past}
 use Rattle.certificate.proofs.checker.argument.Statement.{statement}
 use Rattle.certificate.proofs.checker.argument.Tie as tie

@@ -6,9 +6,9 @@ use Prim.Native.Nat.{_+_}
 use native.Mathlib.Omega.{arith}
 use lib.ListN.{getD, length-map}
 use Rattle.semantics.specs.Tree.{valueOf, valuesOf}
-use Rattle.words.specs.Block.{callIn}
-use Rattle.search.proofs.RuleInBlock.{terms-counted}
-use Rattle.search.specs.InBlock.{headArity}
+use Rattle.block.specs.Layout.{callIn}
+use Rattle.block.proofs.RuleInBlock.{terms-counted}
+use Rattle.block.specs.Ready.{headArity}
 use Rattle.certificate.specs.Line.{givenBy}
 use Rattle.certificate.proofs.Reading.{code-four}
 use Rattle.certificate.proofs.checker.call_fact.Statement.{statement}

@@ -7,7 +7,7 @@ use native.Mathlib.Omega.{arith}
 use lib.ListN.{getD}
 use Rattle.semantics.specs.Certificate.{factAt, positionsAt}
 use Rattle.semantics.specs.Fact.{partOf}
-use Rattle.words.specs.Block.{callIn}
+use Rattle.block.specs.Layout.{callIn}
 use Rattle.words.proofs.Subheap.{told-false, told-apart, told-shared}
 use Rattle.certificate.specs.Line.{givenBy, CallsLine, CallsOf}
 use Rattle.certificate.proofs.Answers.{told-equal}

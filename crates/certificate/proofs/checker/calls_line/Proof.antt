@@ -1,7 +1,7 @@
 -- `calls_line` tests that the line is an earlier one, and compares its fact with the call's, for the line's own subheap.
 use borrow.Author.Needs.{needs}
 use native.Mathlib.Omega.{arith}
-use Rattle.words.specs.Block.{callIn}
+use Rattle.block.specs.Layout.{callIn}
 use Rattle.words.proofs.Subheap.{told-false}
 use Rattle.certificate.specs.Line.{givenBy}
 use Rattle.certificate.proofs.Passing.{line-told}

@@ -6,7 +6,7 @@ use native.Mathlib.Omega.{arith}
 use borrow.Author.Count.{below-none, below-more}
 use lib.ListN.{getD}
 use Rattle.semantics.specs.Tree.{valueOf}
-use Rattle.words.specs.Block.{termIn}
+use Rattle.block.specs.Layout.{termIn}
 use Rattle.words.proofs.Subheap.{told-true, told-false}
 use Rattle.certificate.specs.Line.{givenBy}
 use Rattle.certificate.proofs.Reading.{fields-so, fields-at}

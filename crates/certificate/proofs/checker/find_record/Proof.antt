@@ -5,7 +5,7 @@ use Prim.Native.Nat.{ℕ, _+_, _-_, _*_, _≤_, _<_}
 use native.Mathlib.Omega.{arith}
 use borrow.Author.Count.{below-none, below-more}
 use Rattle.semantics.specs.Tree.{asked}
-use Rattle.words.specs.Block.{atomIn, recordIn}
+use Rattle.block.specs.Layout.{atomIn, recordIn}
 use Rattle.certificate.specs.Line.{givenBy}
 use Rattle.certificate.specs.Line.FoundRecord.{found, none}
 use Rattle.certificate.proofs.checker.find_record.Statement.{statement}

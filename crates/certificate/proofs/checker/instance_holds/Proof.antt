@@ -1,7 +1,7 @@
 -- `instance_holds` tests the conditions in turn: positions, head, pure conditions, and the join.
 use borrow.Author.Needs.{needs}
 use lib.ListN.{getD}
-use Rattle.search.specs.InBlock.{headArity}
+use Rattle.block.specs.Ready.{headArity}
 use Rattle.words.proofs.Subheap.{told-false}
 use Rattle.certificate.proofs.Answers.{told-as}
 use Rattle.certificate.proofs.Passing.{head-so, head-back}

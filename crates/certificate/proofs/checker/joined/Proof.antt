@@ -6,7 +6,7 @@ use native.Mathlib.Omega.{arith}
 use lib.ListN.{getD}
 use Rattle.semantics.specs.Certificate.{positionsAt}
 use Rattle.semantics.specs.Tree.{asked}
-use Rattle.words.specs.Block.{atomIn}
+use Rattle.block.specs.Layout.{atomIn}
 use Rattle.words.proofs.Subheap.{told-false, told-apart, told-shared}
 use Rattle.certificate.specs.Line.{givenBy, FirstRecord, FoundRecord, CallsOf, JoinOf}
 use Rattle.certificate.proofs.Answers.{told-as}

@@ -4,7 +4,7 @@ use Prim.Native.Nat.{ℕ, _+_, _-_, _*_, _≤_, _<_}
 use native.Mathlib.Omega.{arith}
 use borrow.Author.Count.{below-none, below-more}
 use Rattle.semantics.specs.Tree.{Meets}
-use Rattle.words.specs.Block.{pureIn}
+use Rattle.block.specs.Layout.{pureIn}
 use Rattle.words.proofs.Subheap.{told-true, told-false}
 use Rattle.certificate.specs.Line.{givenBy}
 use Rattle.certificate.proofs.checker.pures_hold.Statement.{statement}

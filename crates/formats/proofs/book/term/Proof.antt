@@ -1,6 +1,6 @@
 -- The byte is 255, a variable or neither, and the block gets what it stands for.
 use borrow.Author.Needs.{needs}
-use Rattle.words.specs.Block.{termIn}
+use Rattle.block.specs.Layout.{termIn}
 use Rattle.formats.specs.Layout.{Any}
 use Rattle.formats.proofs.Keep.{stored, kept-none}
 use Rattle.formats.proofs.Naming.{term-nil, term-var, term-off}

@@ -12,13 +12,7 @@ use denote.Struct.Laws as struct-laws
 use Rattle.formats.specs.Cursor.{nextByte}
 use Rattle.formats.specs.declared.Entry.{Entry}
 use Rattle.formats.specs.declared.reader.Reader.{Reader}
-use Rattle.formats.proofs.Walk.{URA, named, w8, w64, Val, vint, SProp, ent, sep, emp, id⊢, Lft, Share, Fml, ftrue, fsep, flft, Memory}
-use Rattle.formats.proofs.Walk.{Routine, Heap, Calls, Loops, WpFn, FmC, fmOf, Atoms, sem, Fun, factI, givenOf, tables, owns, u8, usize, Is}
-use Rattle.formats.proofs.Walk.{Given, ‵, raw, _⊛_, _$_, _∵_, !, qed, move, use1, split, join, fsplit, fjoin, suffices, frame, done}
-use Rattle.formats.proofs.Walk.{look, init, forget, stop, from, load, and-then, no-more, calls-at, land, returns, enter, alloc1, alloc0}
-use Rattle.formats.proofs.Walk.{params1, pass1, pass0, free1, free0, uint-vals, uint-tells, RefT, NamedLft, namedLft, sliceVal, ShrSlice}
-use Rattle.formats.proofs.Walk.{slice-vals, shr-slice-tells, shr-slice-lawful, Vals, onEntry, Contract, Triple, cited}
-use Rattle.formats.proofs.Walk.{Promise, leaves, comes, keeps}
+use Rattle.formats.proofs.Walk.{URA, named, w8, w64, Val, vint, SProp, ent, sep, emp, id⊢, Lft, Share, Fml, ftrue, fsep, flft, Memory, Routine, Heap, Calls, Loops, WpFn, FmC, fmOf, Atoms, sem, Fun, factI, givenOf, tables, owns, u8, usize, Is, Given, ‵, raw, _⊛_, _$_, _∵_, !, qed, move, use1, split, join, fsplit, fjoin, suffices, frame, done, look, init, forget, stop, from, load, and-then, no-more, calls-at, land, returns, enter, alloc1, alloc0, params1, pass1, pass0, free1, free0, uint-vals, uint-tells, RefT, NamedLft, namedLft, sliceVal, ShrSlice, slice-vals, shr-slice-tells, shr-slice-lawful, Vals, onEntry, Contract, Triple, cited, Promise, leaves, comes, keeps}
 use Rattle.formats.proofs.Entry as entry
 use Rattle.formats.proofs.Entry.Laws as entry-laws
 use Rattle.formats.proofs.reader.Reader as reader

@@ -6,11 +6,7 @@ use lib.ListN.{length}
 use types.Part.{agg}
 use denote.Struct.Rest.{own-shut}
 use Rattle.formats.specs.declared.reader.Reader.{Reader}
-use Rattle.formats.proofs.Walk.{URA, named, w64, Val, vint, SProp, ent, emp, Lft, Share, ftrue, flft, Memory, Routine, Heap, Calls, Loops}
-use Rattle.formats.proofs.Walk.{WpFn, Atoms, Fun, factI, givenOf, tables, owns, Is, uint-vals, uint-tells, u8, usize, Vals, onEntry, Contract}
-use Rattle.formats.proofs.Walk.{Given, ‵, raw, _⊛_, _$_, _∵_, !, qed, by, move, suffices, frame, RefT, NamedLft, namedLft, Promise, leaves, keeps}
-use Rattle.formats.proofs.Walk.{look, init, forget, stop, from, load, and-then, no-more, assigns, returns, enter, alloc1, alloc0, params1}
-use Rattle.formats.proofs.Walk.{pass1, pass0, free1, free0, sliceVal, ShrSlice, slice-vals, shr-slice-tells, shr-slice-lawful}
+use Rattle.formats.proofs.Walk.{URA, named, w64, Val, vint, SProp, ent, emp, Lft, Share, ftrue, flft, Memory, Routine, Heap, Calls, Loops, WpFn, Atoms, Fun, factI, givenOf, tables, owns, Is, uint-vals, uint-tells, u8, usize, Vals, onEntry, Contract, Given, ‵, raw, _⊛_, _$_, _∵_, !, qed, by, move, suffices, frame, RefT, NamedLft, namedLft, Promise, leaves, keeps, look, init, forget, stop, from, load, and-then, no-more, assigns, returns, enter, alloc1, alloc0, params1, pass1, pass0, free1, free0, sliceVal, ShrSlice, slice-vals, shr-slice-tells, shr-slice-lawful}
 use Rattle.formats.proofs.reader.Reader as reader
 use Rattle.formats.proofs.reader.Reader.Laws as reader-laws
 use Rattle.formats.proofs.reader.Reader.new as new

@@ -15,12 +15,7 @@ use denote.Struct.Rest.{all-own, own-open}
 use Rattle.formats.specs.Cursor.{nextByte}
 use Rattle.formats.specs.declared.Entry.{Entry}
 use Rattle.formats.specs.declared.reader.Reader.{Reader}
-use Rattle.formats.proofs.Walk.{URA, named, w8, w64, Val, vint, SProp, ent, emp, id⊢, Lft, Share, ftrue, flft, Memory, Routine, Heap}
-use Rattle.formats.proofs.Walk.{Calls, Loops, WpFn, FmC, fmOf, Atoms, Fun, factI, givenOf, tables, owns, u8, uint-vals, uint-tells}
-use Rattle.formats.proofs.Walk.{Given, ‵, raw, _⊛_, _$_, _∵_, !, qed, move, use1, join, fsplit, fjoin, suffices, frame, done, calls-at}
-use Rattle.formats.proofs.Walk.{look, init, forget, stop, from, load, and-then, no-more, assigns, land, returns, enter, alloc1, alloc0}
-use Rattle.formats.proofs.Walk.{params1, pass1, pass0, free1, free0, NamedLft, namedLft, sliceVal, Vals, onEntry, Contract, Triple, cited}
-use Rattle.formats.proofs.Walk.{Promise, leaves, comes, keeps}
+use Rattle.formats.proofs.Walk.{URA, named, w8, w64, Val, vint, SProp, ent, emp, id⊢, Lft, Share, ftrue, flft, Memory, Routine, Heap, Calls, Loops, WpFn, FmC, fmOf, Atoms, Fun, factI, givenOf, tables, owns, u8, uint-vals, uint-tells, Given, ‵, raw, _⊛_, _$_, _∵_, !, qed, move, use1, join, fsplit, fjoin, suffices, frame, done, calls-at, look, init, forget, stop, from, load, and-then, no-more, assigns, land, returns, enter, alloc1, alloc0, params1, pass1, pass0, free1, free0, NamedLft, namedLft, sliceVal, Vals, onEntry, Contract, Triple, cited, Promise, leaves, comes, keeps}
 use Rattle.formats.proofs.Entry as entry
 use Rattle.formats.proofs.Entry.Laws as entry-laws
 use Rattle.formats.proofs.reader.Reader as reader

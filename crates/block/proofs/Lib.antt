@@ -1,0 +1,3 @@
+pub mod ReadyBlocks
+pub mod RuleInBlock
+pub mod Scopes
