@@ -16,7 +16,7 @@ enum { MOST_INPUT = 4096, MOST_UNFOLDING = 24576, STACK = 1 << 20, PAINT = 0xA5 
 
 /* Bytes in a block of just their size, so that a memory checker sees a read
    past the end. */
-struct part {
+struct block {
     uint8_t *bytes;
     size_t len;
 };
@@ -25,7 +25,7 @@ enum entry { NOTHING, DECIDE, CHECK };
 
 struct call {
     enum entry entry;
-    struct part parts[3], unfolding;
+    struct block sections[3], unfolding;
     uint64_t answer;
 };
 
@@ -38,15 +38,15 @@ static void *must(void *memory)
     return memory;
 }
 
-static struct part part_of(const uint8_t *bytes, size_t len)
+static struct block block_of(const uint8_t *bytes, size_t len)
 {
-    struct part part = {must(malloc(len ? len : 1)), len};
-    memcpy(part.bytes, bytes, len);
-    return part;
+    struct block block = {must(malloc(len ? len : 1)), len};
+    memcpy(block.bytes, bytes, len);
+    return block;
 }
 
-/* The three parts of a bench input, each after its length. */
-static void split(const uint8_t *input, size_t len, struct part parts[3])
+/* The three sections of a bench input, each after its length. */
+static void split(const uint8_t *input, size_t len, struct block sections[3])
 {
     for (int i = 0; i < 3; i++) {
         size_t want = (len > 0 ? input[0] : 0) + 256 * (len > 1 ? input[1] : 0);
@@ -55,7 +55,7 @@ static void split(const uint8_t *input, size_t len, struct part parts[3])
         len -= head;
         if (want > len)
             want = len;
-        parts[i] = part_of(input, want);
+        sections[i] = block_of(input, want);
         input += want;
         len -= want;
     }
@@ -64,7 +64,7 @@ static void split(const uint8_t *input, size_t len, struct part parts[3])
 static void *run(void *data)
 {
     struct call *call = data;
-    const struct part *p = call->parts, *u = &call->unfolding;
+    const struct block *p = call->sections, *u = &call->unfolding;
     if (call->entry == DECIDE)
         call->answer = desk_decide(p[0].bytes, p[0].len, p[1].bytes, p[1].len, p[2].bytes, p[2].len);
     if (call->entry == CHECK)
@@ -107,12 +107,12 @@ int main(int count, char **names)
             perror(names[i]);
             return 2;
         }
-        split(input, fread(input, 1, sizeof input, file), call.parts);
+        split(input, fread(input, 1, sizeof input, file), call.sections);
         fclose(file);
         printf("%s:", names[i]);
         for (int turn = 0; turn < 5; turn++) {
             call.entry = turn == 0 ? DECIDE : CHECK;
-            call.unfolding = part_of(zeros, lengths[turn]);
+            call.unfolding = block_of(zeros, lengths[turn]);
             if (measured) {
                 size_t used = stack_of(&call) - thread_itself;
                 if (used > most[call.entry])
@@ -124,8 +124,8 @@ int main(int count, char **names)
             free(call.unfolding.bytes);
         }
         putchar('\n');
-        for (int part = 0; part < 3; part++)
-            free(call.parts[part].bytes);
+        for (int i = 0; i < 3; i++)
+            free(call.sections[i].bytes);
     }
     if (measured)
         printf("stack: desk_decide %zu bytes, desk_check %zu bytes\n", most[DECIDE], most[CHECK]);

@@ -70,7 +70,7 @@ impl Slowest {
     fn print(&self, name: &str) {
         println!("slowest, {name}: {:.1} ms", self.time.as_secs_f64() * 1e3);
         if self.time.as_secs() >= 1 {
-            let [book, snapshot, question] = self.input.parts().map(|part| hex(part));
+            let [book, snapshot, question] = self.input.sections().map(|section| hex(section));
             println!("  --input {book} {snapshot} {question}");
         }
     }

@@ -15,7 +15,7 @@ const BYTES: [u8; 17] = [
 /// Random bytes are tried up to this length.
 const LONGEST: usize = 4_200;
 
-/// Every byte of the three parts replaced, every part cut short and drawn out;
+/// Every byte of the three sections replaced, every section cut short and drawn out;
 /// each to both entries.
 pub fn every_byte(comparer: &mut Comparer, dice: &mut Dice, input: &Input) {
     let lines = comparer.decide(input).and_then(unfoldings::lines_of);
@@ -26,33 +26,33 @@ pub fn every_byte(comparer: &mut Comparer, dice: &mut Dice, input: &Input) {
             comparer.check(input, &unfolding);
         }
     };
-    for part in 0..3 {
-        let whole = input.parts()[part].clone();
+    for section in 0..3 {
+        let whole = input.sections()[section].clone();
         for (at, &old) in whole.iter().enumerate() {
             let near = [old.wrapping_add(1), old.wrapping_sub(1), dice.byte()];
             for byte in BYTES.into_iter().chain(near) {
                 if byte != old {
                     let mut other = input.clone();
-                    other.parts_mut()[part][at] = byte;
+                    other.sections_mut()[section][at] = byte;
                     both(&other);
                 }
             }
             let mut shorter = input.clone();
-            shorter.parts_mut()[part].truncate(at);
+            shorter.sections_mut()[section].truncate(at);
             both(&shorter);
             let mut less = input.clone();
-            less.parts_mut()[part].remove(at);
+            less.sections_mut()[section].remove(at);
             both(&less);
             let mut more = input.clone();
-            more.parts_mut()[part].insert(at, dice.pick(&BYTES));
+            more.sections_mut()[section].insert(at, dice.pick(&BYTES));
             both(&more);
         }
         for more in 1..=9 {
             let mut longer = input.clone();
-            longer.parts_mut()[part].extend((0..more).map(|_| dice.pick(&BYTES)));
+            longer.sections_mut()[section].extend((0..more).map(|_| dice.pick(&BYTES)));
             both(&longer);
             longer = input.clone();
-            longer.parts_mut()[part].extend(vec![0; more]);
+            longer.sections_mut()[section].extend(vec![0; more]);
             both(&longer);
         }
     }
@@ -64,15 +64,15 @@ pub fn some_bytes(comparer: &mut Comparer, dice: &mut Dice, input: &Input, count
         let mut other = input.clone();
         for _ in 0..dice.between(1, 2) {
             let chosen = dice.below(3);
-            let part = &mut other.parts_mut()[chosen];
-            let at = dice.below(part.len().max(1));
+            let section = &mut other.sections_mut()[chosen];
+            let at = dice.below(section.len().max(1));
             match dice.below(8) {
-                0 => part.truncate(at),
-                1 => part.insert(at.min(part.len()), dice.pick(&BYTES)),
-                2 => part.extend([dice.pick(&BYTES)]),
-                _ if part.is_empty() => {}
-                3 => part[at] ^= 1 << dice.below(8),
-                _ => part[at] = dice.pick(&BYTES),
+                0 => section.truncate(at),
+                1 => section.insert(at.min(section.len()), dice.pick(&BYTES)),
+                2 => section.extend([dice.pick(&BYTES)]),
+                _ if section.is_empty() => {}
+                3 => section[at] ^= 1 << dice.below(8),
+                _ => section[at] = dice.pick(&BYTES),
             }
         }
         comparer.decide(&other);
@@ -94,22 +94,22 @@ fn random_bytes(dice: &mut Dice, length: usize) -> Vec<u8> {
     (0..length).map(|_| byte()).collect()
 }
 
-/// Random bytes of every length in place of each part, or behind a piece of it.
+/// Random bytes of every length in place of each section, or behind a piece of it.
 pub fn every_length(comparer: &mut Comparer, dice: &mut Dice, input: &Input) {
     let whole = input.clone();
     for length in 0..=LONGEST {
         if !comparer.takes_turn() {
             continue;
         }
-        for part in 0..3 {
+        for section in 0..3 {
             let mut other = whole.clone();
-            *other.parts_mut()[part] = random_bytes(dice, length);
+            *other.sections_mut()[section] = random_bytes(dice, length);
             comparer.decide(&other);
             comparer.check(&other, &[]);
             let mut longer = whole.clone();
-            let kept = dice.below(whole.parts()[part].len() + 1);
-            longer.parts_mut()[part].truncate(kept);
-            longer.parts_mut()[part].extend(random_bytes(dice, length));
+            let kept = dice.below(whole.sections()[section].len() + 1);
+            longer.sections_mut()[section].truncate(kept);
+            longer.sections_mut()[section].extend(random_bytes(dice, length));
             comparer.decide(&longer);
         }
         comparer.check(&whole, &random_bytes(dice, length));
@@ -126,7 +126,7 @@ pub fn every_length(comparer: &mut Comparer, dice: &mut Dice, input: &Input) {
     }
 }
 
-/// Inputs for the bench program alone: any bytes, and lengths of parts that
+/// Inputs for the bench program alone: any bytes, and lengths of sections that
 /// are not so.
 pub fn bench_inputs(comparer: &mut Comparer, dice: &mut Dice, inputs: &[Input], count: usize) {
     for length in [

@@ -177,20 +177,20 @@ impl Input {
         }
     }
 
-    pub fn parts(&self) -> [&Vec<u8>; 3] {
+    pub fn sections(&self) -> [&Vec<u8>; 3] {
         [&self.book, &self.snapshot, &self.question]
     }
 
-    pub fn parts_mut(&mut self) -> [&mut Vec<u8>; 3] {
+    pub fn sections_mut(&mut self) -> [&mut Vec<u8>; 3] {
         [&mut self.book, &mut self.snapshot, &mut self.question]
     }
 
-    /// The three parts, each after its length, as the bench program reads them.
+    /// The three sections, each after its length, as the bench program reads them.
     pub fn bench_bytes(&self) -> Vec<u8> {
         let mut bytes = Vec::new();
-        for part in self.parts() {
-            bytes.extend((part.len() as u16).to_le_bytes());
-            bytes.extend(part);
+        for section in self.sections() {
+            bytes.extend((section.len() as u16).to_le_bytes());
+            bytes.extend(section);
         }
         bytes
     }

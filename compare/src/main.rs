@@ -60,7 +60,7 @@ fn main() -> ExitCode {
         Some((&"--once", [name, which @ ("proved" | "reference")])) => {
             bench::once(name, *which == "proved").is_some()
         }
-        Some((&"--input", parts)) => one_input(parts).is_some(),
+        Some((&"--input", sections)) => one_input(sections).is_some(),
         Some((&"--write-hostile", [])) => hostile::write().is_ok(),
         Some((&patience::OPTION, [])) => patience::attempt().is_ok(),
         _ => match options(&words) {
@@ -137,22 +137,22 @@ fn seed_of_the_hour() -> u64 {
 
 /// What both programs say to one input, as a difference prints it.
 fn one_input(words: &[&str]) -> Option<()> {
-    let parts: Option<Vec<Vec<u8>>> = words
+    let sections: Option<Vec<Vec<u8>>> = words
         .iter()
         .map(|&word| from_hex(if word == "-" { "" } else { word }))
         .collect();
-    let mut parts = parts?.into_iter();
+    let mut sections = sections?.into_iter();
     let input = Input {
-        book: parts.next()?,
-        snapshot: parts.next()?,
-        question: parts.next()?,
+        book: sections.next()?,
+        snapshot: sections.next()?,
+        question: sections.next()?,
     };
     let Input {
         book,
         snapshot,
         question,
     } = &input;
-    let (reference, proved) = match parts.next() {
+    let (reference, proved) = match sections.next() {
         None => (
             api::desk_engine(book, snapshot, question) as u64,
             desk::decide(book, snapshot, question),

@@ -28,7 +28,7 @@ pub fn outcome(input: &Input) -> Option<Outcome> {
 }
 
 fn decide(input: &Input) -> Outcome {
-    let [book, snapshot, question] = input.parts();
+    let [book, snapshot, question] = input.sections();
     api::decide(book, snapshot, question, OWN_LINES, 3 * OWN_LINES)
 }
 

@@ -4,20 +4,19 @@ use mathlib.Core.Bool.{Bool, not}
 use mathlib.Core.Path.{_≡_, refl, sym, ap, ap₂, _∙_}
 use mathlib.Core.List.{List, [], _∷_, map}
 use mathlib.Core.Logic.{_≢_}
-use Prim.Native.Nat.{ℕ, _+_, _≤_, _<_}
+use Prim.Native.Nat.{ℕ, _+_, _-_, _≤_, _<_}
 use native.Mathlib.Omega.{arith}
-use native.Mathlib.Decide.{ℕ-discrete}
 use lib.ListN.{length, getD, take, length-take, List·getD-eq-default}
 use lib.Seq.{getD-take}
 use lib.Dec.{eqb}
-use borrow.Author.Tests.{eq-eqb, ne-eqb}
+use borrow.Author.Tests.{eq-eqb, ne-eqb, lt-ltb, le-ltb}
 use Rattle.semantics.specs.Fact.{code}
 use Rattle.semantics.specs.Heap.{Record}
 use Rattle.semantics.specs.Lists.{digits}
 use Rattle.semantics.specs.Tree.{valueOf, valuesOf, Compare, Meets, asked}
 use Rattle.semantics.proofs.Digits.{digitsOf-length}
 use Rattle.words.specs.Entries.{tabulate, entries}
-use Rattle.block.specs.Layout.{termIn, kindIn, pureIn, atomIn, recordIn}
+use Rattle.block.specs.Layout.{termIn, kindIn, pureIn, atomIn, recordIn, purePlace, pureKind, pureLeft, pureRight, atomPlace, atomAddress, atomSize, atomField, recordPlace, recordAddress, recordSize, recordField}
 use Rattle.words.specs.Subheap.{Told}
 use Rattle.words.proofs.Tabulate.{tabulate-length, tabulate-at, tabulate-same, tabulate-map}
 use Rattle.certificate.specs.Line.{givenBy}
@@ -25,15 +24,15 @@ use Rattle.certificate.proofs.Answers.{told-as, told-equal, told-unequa
 
 -- ---- a term
 
-pub term-variable : (word b : ℕ) → b < 8 → getD (givenBy word) b 0 ≡ valueOf (givenBy word) (termIn b)
-term-variable word b h = rw (ne-eqb b 128 (λ e. omega arith), valueOf) refl
+-- a variable beyond the word's eight has no position
+pub variable-beyond : (word v : ℕ) → 8 ≤ v → 0 ≡ getD (givenBy word) v 0
+variable-beyond word v h = sym (List·getD-eq-default (givenBy word) 0 (omega (arith, digitsOf-length 256 8 word)))
 
-pub term-nil : (word b : ℕ) → 8 ≤ b → 0 ≡ valueOf (givenBy word) (termIn b)
-term-nil word b h = step (ℕ-discrete b 128)
-  where
-    step : Dec (b ≡ 128) → 0 ≡ valueOf (givenBy word) (termIn b)
-    step (yes e) = rw (eq-eqb b 128 e, valueOf) refl
-    step (no n) = rw (ne-eqb b 128 n, valueOf) (sym (List·getD-eq-default (givenBy word) 0 (omega (arith, digitsOf-length 256 8 word))))
+pub term-variable : (word b : ℕ) → b < 128 → getD (givenBy word) b 0 ≡ valueOf (givenBy word) (termIn b)
+term-variable word b h = rw (lt-ltb b 128 h, valueOf) refl
+
+pub term-fixed : (word b : ℕ) → 128 ≤ b → b - 128 ≡ valueOf (givenBy word) (termIn b)
+term-fixed word b h = rw (le-ltb b 128 h, valueOf) refl
 
 -- ---- terms in a row
 
@@ -78,32 +77,28 @@ head-past word arity j h = sym (List·getD-eq-default (take arity (givenBy word)
 
 -- ---- a record
 
--- an address is a variable: its position is that of the term
-term-address : (word b : ℕ) → valueOf (givenBy word) (termIn b) ≡ getD (givenBy word) b 0
-term-address word b = step (ℕ-discrete b 128)
-  where
-    step : Dec (b ≡ 128) → valueOf (givenBy word) (termIn b) ≡ getD (givenBy word) b 0
-    step (yes e) = sym (term-nil word b (omega arith)) ∙ sym (List·getD-eq-default (givenBy word) 0 (omega (arith, digitsOf-length 256 8 word)))
-    step (no n) = rw (ne-eqb b 128 n, valueOf) refl
+module _ (rules : List ℕ) (rule g word : ℕ) (records : List ℕ) (i : ℕ) where
+  -- record i is as atom g asks
+  abbrev AsAsked : Type 0
+  AsAsked = recordIn records (recordPlace i) ≡ asked (givenBy word) (atomIn rules (atomPlace rule g))
 
-module _ (rules records : List ℕ) (word at place : ℕ) where
-  pub record-address : recordIn records place ≡ asked (givenBy word) (atomIn rules at) → getD records place 0 ≡ valueOf (givenBy word) (termIn (getD rules at 0))
-  record-address e = ap (λ (r : Record). r .address) e ∙ sym (term-address word (getD rules at 0))
+  pub address-asked : AsAsked → recordAddress records i ≡ getD (givenBy word) (atomAddress rules rule g) 0
+  address-asked e = ap (λ (r : Record). r .address) e
 
-  pub record-count : recordIn records place ≡ asked (givenBy word) (atomIn rules at) → getD records (place + 1) 0 ≡ getD rules (at + 1) 0
-  record-count e =
-      sym (tabulate-length (getD records (place + 1) 0) (λ i. getD records (place + 2 + i) 0))
-      ∙ ap (λ (r : Record). length (r .fields)) e ∙ ap length (terms-are rules word (at + 2) (getD rules (at + 1) 0))
-      ∙ tabulate-length (getD rules (at + 1) 0) (λ j. valueOf (givenBy word) (termIn (getD rules (at + 2 + j) 0)))
+  pub size-asked : AsAsked → recordSize records i ≡ atomSize rules rule g
+  size-asked e =
+      sym (tabulate-length (recordSize records i) (recordField records i))
+      ∙ ap (λ (r : Record). length (r .fields)) e ∙ ap length (terms-are rules word (atomPlace rule g + 2) (atomSize rules rule g))
+      ∙ tabulate-length (atomSize rules rule g) (λ j. valueOf (givenBy word) (termIn (atomField rules rule g j)))
 
-  pub record-told : (count : ℕ) (r : Bool) → getD records place 0 ≡ valueOf (givenBy word) (termIn (getD rules at 0)) → getD records (place + 1) 0 ≡ getD rules (at + 1) 0
-      → count ≡ getD rules (at + 1) 0 → Told r (entries records (place + 2) count ≡ valuesOf (givenBy word) (map termIn (entries rules (at + 2) count)))
-      → Told r (recordIn records place ≡ asked (givenBy word) (atomIn rules at))
-  record-told count r a c e t =
+  pub record-told : {r : Bool} → recordAddress records i ≡ getD (givenBy word) (atomAddress rules rule g) 0 → recordSize records i ≡ atomSize rules rule g
+      → Told r (entries records (recordPlace i + 2) (atomSize rules rule g) ≡ valuesOf (givenBy word) (map termIn (entries rules (atomPlace rule g + 2) (atomSize rules rule g))))
+      → Told r AsAsked
+  record-told a c t =
       told-as
-      (λ f. ap₂ (λ (x : ℕ) (xs : List ℕ). record { address = x; fields = xs }) (a ∙ term-address word (getD rules at 0)) (ap (entries records (place + 2)) c ∙ f))
-      (λ q. ap (entries records (place + 2)) (sym c) ∙ ap (λ (x : Record). x .fields) q)
-      (rw e at t)
+      (λ f. ap₂ (λ (x : ℕ) (xs : List ℕ). record { address = x; fields = xs }) a (ap (entries records (recordPlace i + 2)) c ∙ f))
+      (λ q. ap (entries records (recordPlace i + 2)) (sym c) ∙ ap (λ (x : Record). x .fields) q)
+      t
 
 -- ---- a fact from its four positions
 
@@ -116,21 +111,21 @@ four-entries base (a ∷ (b ∷ (c ∷ []))) h = omega arith
 four-entries base (a ∷ (b ∷ (c ∷ (d ∷ [])))) h = refl
 four-entries base (a ∷ (b ∷ (c ∷ (d ∷ (e ∷ ps))))) h = absurd (omega arith)
 
-pub code-four : (p part : ℕ) (xs ps : List ℕ) → length ps ≤ 4 → getD xs 0 0 ≡ getD ps 0 0 → getD xs 1 0 ≡ getD ps 1 0 → getD xs 2 0 ≡ getD ps 2 0
-    → getD xs 3 0 ≡ getD ps 3 0 → code p (entries xs 0 4) part ≡ code p ps part
+pub code-four : (p q part : ℕ) (xs ps : List ℕ) → p ≡ q → length ps ≤ 4 → getD xs 0 0 ≡ getD ps 0 0 → getD xs 1 0 ≡ getD ps 1 0 → getD xs 2 0 ≡ getD ps 2 0
+    → getD xs 3 0 ≡ getD ps 3 0 → code p (entries xs 0 4) part ≡ code q ps part
 unfolding code tabulate
-code-four p part xs ps h a b c d = omega (arith, rw (← a, ← b, ← c, ← d) at (four-entries 128 ps h))
+code-four p q part xs ps e h a b c d = omega (arith, rw (← a, ← b, ← c, ← d) at (four-entries 128 ps h))
 
 -- ---- a pure condition
 
-pub pure-equal : (rules : List ℕ) (at word a b : ℕ) → getD rules at 0 ≡ 0 → a ≡ valueOf (givenBy word) (termIn (getD rules (at + 1) 0))
-    → b ≡ valueOf (givenBy word) (termIn (getD rules (at + 2) 0)) → Told (eqb a b) (Meets (givenBy word) (pureIn rules at))
-pure-equal rules at word a b k p q =
-    let compares : Compare (kindIn (getD rules at 0)) a b ≡ (a ≡ b) = rw (eq-eqb (getD rules at 0) 0 k, Compare) refl in
-    rw (← p, ← q, compares) (told-equal a b (λ e. e) (λ e. e))
+module _ (rules : List ℕ) (rule k word : ℕ) {kind a b : ℕ} (is-kind : kind ≡ pureKind rules rule k) (is-left : a ≡ valueOf (givenBy word) (termIn (pureLeft rules rule k)))
+    (is-right : b ≡ valueOf (givenBy word) (termIn (pureRight rules rule k))) where
+  pub pure-equal : kind ≡ 0 → Told (eqb a b) (Meets (givenBy word) (pureIn rules (purePlace rule k)))
+  pure-equal e =
+      let compares : Compare (kindIn (pureKind rules rule k)) a b ≡ (a ≡ b) = rw (eq-eqb (pureKind rules rule k) 0 (sym is-kind ∙ e), Compare) refl in
+      rw (← is-left, ← is-right, compares) (told-equal a b (λ s. s) (λ s. s))
 
-pub pure-unequal : (rules : List ℕ) (at word a b : ℕ) → getD rules at 0 ≢ 0 → a ≡ valueOf (givenBy word) (termIn (getD rules (at + 1) 0))
-    → b ≡ valueOf (givenBy word) (termIn (getD rules (at + 2) 0)) → Told (not (eqb a b)) (Meets (givenBy word) (pureIn rules at))
-pure-unequal rules at word a b k p q =
-    let compares : Compare (kindIn (getD rules at 0)) a b ≡ (a ≢ b) = rw (ne-eqb (getD rules at 0) 0 k, Compare) refl in
-    rw (← p, ← q, compares) (told-unequal a b)
+  pub pure-unequal : kind ≢ 0 → Told (not (eqb a b)) (Meets (givenBy word) (pureIn rules (purePlace rule k)))
+  pure-unequal n =
+      let compares : Compare (kindIn (pureKind rules rule k)) a b ≡ (a ≢ b) = rw (ne-eqb (pureKind rules rule k) 0 (λ e. n (is-kind ∙ e)), Compare) refl in
+      rw (← is-left, ← is-right, compares) (told-unequal a b)

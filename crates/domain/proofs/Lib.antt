@@ -5,4 +5,5 @@ pub mod Variables
 pub mod Spares
 pub mod Keeping
 pub mod Placing
+pub mod PlacingRules
 pub mod Bridge

@@ -1,49 +1,63 @@
--- The values that the heap's and the query's blocks hold, by their places.
+-- The values that the heap's block holds, by their places.
 use mathlib.Core.Path.{_≡_, ap₂, _∙_}
 use mathlib.Core.List.{List, [], _∷_, List·Memᴰ·tail}
-use Prim.Native.Nat.{ℕ, zero, suc, _+_, _-_, _*_, _≤_, _<_}
+use Prim.Native.Nat.{ℕ, zero, suc, _+_, _-_, _≤_, _<_}
 use native.Mathlib.Omega.{arith}
 use lib.ListN.{length, getD, drop, length-drop, drop-of-length-le}
 use lib.Seq.{drop-cons}
 use Rattle.semantics.specs.Lists.{_among_}
 use Rattle.semantics.specs.Heap.{Record, blank, recordValues, heapValues, WellFormedHeap}
+use Rattle.semantics.specs.Domain.{mostValues}
 use Rattle.semantics.proofs.DomainFacts.{heap-length}
-use Rattle.words.specs.Entries.{tabulate}
-use Rattle.block.specs.Layout.{recordIn, heapIn}
+use Rattle.words.specs.Entries.{tabulate, entries}
+use Rattle.block.specs.Layout.{recordCount, recordPlace, recordSize, recordField, recordIn, heapIn}
 use Rattle.words.proofs.Tabulate.{entries-length, tabulate-length, tabulate-at, tabulate-in}
 use Rattle.domain.specs.Insertion.{Room, Inserted}
 use Rattle.domain.proofs.Insertion.{inserted-none, inserted-also, inserted-room}
 
+-- record k, and its fields
+abbrev pub recordOf : List ℕ → ℕ → Record
+recordOf heap k = recordIn heap (recordPlace k)
+
+abbrev pub fieldsOf : List ℕ → ℕ → List ℕ
+fieldsOf heap k = entries heap (recordPlace k + 2) (recordSize heap k)
+
+pub fields-length : (heap : List ℕ) (k : ℕ) → length (fieldsOf heap k) ≡ recordSize heap k
+fields-length heap k = entries-length heap (recordPlace k + 2) (recordSize heap k)
+
+pub field-at : (heap : List ℕ) (k j : ℕ) → j < recordSize heap k → getD (fieldsOf heap k) j 0 ≡ recordField heap k j
+field-at heap k j h = tabulate-at (recordSize heap k) (recordField heap k) 0 j h
+
 -- ---- counts
 
-pub heap-count : (heap : List ℕ) → length (heapIn heap) ≡ getD heap 0 0
+pub heap-count : (heap : List ℕ) → length (heapIn heap) ≡ recordCount heap
 unfolding heapIn
-heap-count heap = tabulate-length (getD heap 0 0) (λ (k : ℕ). recordIn heap (1 + 6 * k))
+heap-count heap = tabulate-length (recordCount heap) (recordOf heap)
 
 module _ (heap : List ℕ) (formed : WellFormedHeap (heapIn heap)) where
-  pub records-few : getD heap 0 0 ≤ 16
+  pub records-few : recordCount heap ≤ 16
   records-few = omega (arith, formed .records-few, heap-count heap)
 
-  pub record-in : (k : ℕ) → k < getD heap 0 0 → recordIn heap (1 + 6 * k) among heapIn heap
+  pub record-in : (k : ℕ) → k < recordCount heap → recordOf heap k among heapIn heap
   unfolding heapIn
-  record-in k h = tabulate-in (getD heap 0 0) (λ (i : ℕ). recordIn heap (1 + 6 * i)) k h
+  record-in k h = tabulate-in (recordCount heap) (recordOf heap) k h
 
-  pub fields-few : (k : ℕ) → k < getD heap 0 0 → getD heap (1 + 6 * k + 1) 0 ≤ 4
-  fields-few k h =
-      omega (arith, formed .fields-few (recordIn heap (1 + 6 * k)) (record-in k h), entries-length heap (1 + 6 * k + 2) (getD heap (1 + 6 * k + 1) 0))
+  pub fields-few : (k : ℕ) → k < recordCount heap → recordSize heap k ≤ 4
+  fields-few k h = omega (arith, formed .fields-few (recordOf heap k) (record-in k h), fields-length heap k)
 
 -- ---- the heap's values, inserted from the last record to the first
 
-pub heap-end : {before : List ℕ} {n : ℕ} (heap : List ℕ) → length before ≡ 96 → Inserted before before n (heapValues (drop (getD heap 0 0) (heapIn heap))) n
+pub heap-end : {before : List ℕ} {n : ℕ} (heap : List ℕ) (k : ℕ) → recordCount heap ≤ k → length before ≡ mostValues
+    → Inserted before before n (heapValues (drop k (heapIn heap))) n
 unfolding heapValues
-heap-end {before} {n} heap l = rw (drop-of-length-le (heapIn heap) {i = getD heap 0 0} (omega (arith, heap-count heap))) (inserted-none before n l)
+heap-end {before} {n} heap k h l = rw (drop-of-length-le (heapIn heap) {i = k} (omega (arith, heap-count heap))) (inserted-none before n l)
 
-pub heap-down : {a b c : List ℕ} {n m r : ℕ} (heap : List ℕ) (k : ℕ) → 0 < k → k ≤ getD heap 0 0 → Inserted a b n (heapValues (drop k (heapIn heap))) m
-    → Inserted b c m (recordValues (recordIn heap (1 + 6 * (k - 1)))) r → Inserted a c n (heapValues (drop (k - 1) (heapIn heap))) r
+pub heap-down : {a b c : List ℕ} {n m r : ℕ} (heap : List ℕ) (k : ℕ) → 0 < k → k ≤ recordCount heap → Inserted a b n (heapValues (drop k (heapIn heap))) m
+    → Inserted b c m (recordValues (recordOf heap (k - 1))) r → Inserted a c n (heapValues (drop (k - 1) (heapIn heap))) r
 unfolding heapValues heapIn
 heap-down heap k h l p q =
-    let f : ℕ → Record = λ i. recordIn heap (1 + 6 * i) in
-    let n : ℕ = getD heap 0 0 in
+    let f : ℕ → Record = recordOf heap in
+    let n : ℕ = recordCount heap in
     let s : suc (k - 1) ≡ k = omega arith in
     let here : drop (k - 1) (tabulate n f) ≡ f (k - 1) ∷ drop k (tabulate n f) =
     drop-cons (tabulate n f) (k - 1) blank (omega (arith, tabulate-length n f))
@@ -56,7 +70,7 @@ drop-in zero xs m = m
 drop-in (suc k) [] m = m
 drop-in (suc k) (x ∷ xs) m = List·Memᴰ·tail (drop-in k xs m)
 
-pub heap-room : {a b : List ℕ} {n m : ℕ} (heap : List ℕ) (k : ℕ) → WellFormedHeap (heapIn heap) → 0 < k → k ≤ getD heap 0 0 → Room a n 80
+pub heap-room : {a b : List ℕ} {n m : ℕ} (heap : List ℕ) (k : ℕ) → WellFormedHeap (heapIn heap) → 0 < k → k ≤ recordCount heap → Room a n 80
     → Inserted a b n (heapValues (drop k (heapIn heap))) m → Room b m 5
 heap-room heap k formed l h r p =
     inserted-room 5 r p

@@ -1,33 +1,33 @@
--- The values that a heap and a query give, and the spares among the other numbers.
+-- The values that a heap and a list of values give, and the spares among the other numbers.
 use mathlib.Core.List.{List, _∷_, _++_}
 use mathlib.Core.Path.{_≡_}
-use Prim.Native.Nat.{ℕ, _≤_, _<_}
-use lib.ListN.{length, getD, take}
+use Prim.Native.Nat.{ℕ, _+_, _≤_, _<_}
+use lib.ListN.{length, take}
 use Rattle.semantics.specs.Lists.{_among_}
 use Rattle.semantics.specs.Heap.{WellFormedHeap, heapValues}
-use Rattle.semantics.specs.Domain.{spares, ascending}
-use Rattle.words.specs.Entries.{entries}
+use Rattle.semantics.specs.Domain.{mostValues, spares, ascending}
 use Rattle.block.specs.Layout.{heapIn}
 
-abbrev pub queryValues : List ℕ → List ℕ
-queryValues query = entries query 2 (getD query 1 0)
-
--- What the query and the heap give: all good values but nil.
+-- What the list and the heap give: all good values but nil.
 abbrev pub given : List ℕ → List ℕ → List ℕ
-given heap query = queryValues query ++ heapValues (heapIn heap)
+given heap values = values ++ heapValues (heapIn heap)
 
 -- The good values.
 abbrev pub goodIn : List ℕ → List ℕ → List ℕ
-goodIn heap query = 0 ∷ given heap query
+goodIn heap values = 0 ∷ given heap values
 
 -- A list with the n smallest numbers that are not in it.
 abbrev pub withSpares : ℕ → List ℕ → List ℕ
 withSpares n values = spares n values ++ values
 
--- What the readers guarantee of the two blocks.
-pub record Readable (heap query : List ℕ) : Type 0 where
+-- What a domain has besides the given values, at most: nil, 16 records of an address and 4 fields, 8 spares.
+abbrev pub otherValues : ℕ
+otherValues = 89
+
+-- The heap is as the reader leaves it, and the given values fit into a domain.
+pub record Readable (heap values : List ℕ) : Type 0 where
   pub heap-formed : WellFormedHeap (heapIn heap)
-  pub values-few : getD query 1 0 ≤ 4
+  pub values-few : otherValues + length values ≤ mostValues
 
 -- The smallest number from `start` on that is not in the list.
 pub record Spare (values : List ℕ) (start v : ℕ) : Type 0 where
@@ -36,7 +36,7 @@ pub record Spare (values : List ℕ) (start v : ℕ) : Type 0 where
   pub taken : (k : ℕ) → start ≤ k → k < v → k among values
 
 -- The first n values of the array are those of the list, ascending and without repeat.
-pub record Carries (domain : List ℕ) (n : ℕ) (values : List ℕ) : Type 0 where
-  pub long : length domain ≡ 96
+pub record Carries (array : List ℕ) (n : ℕ) (values : List ℕ) : Type 0 where
+  pub long : length array ≡ mostValues
   pub few : n ≤ length values
-  pub is : take n domain ≡ ascending values
+  pub is : take n array ≡ ascending values

@@ -1,13 +1,13 @@
--- From what the readers say to the contracts' cases.
-use mathlib.Core.Path.{_≡_, refl}
-use mathlib.Core.Bool.{Bool, true, false}
+-- From what the reader says to the contracts: the ways out of every public call whose input is book, snapshot and question.
+use mathlib.Core.Path.{_≡_}
 use mathlib.Core.List.{List}
 use Prim.Native.Nat.{ℕ}
 use lib.ListN.{length}
-use Rattle.semantics.specs.Formats.{WellFormedInput}
-use Rattle.semantics.specs.Contract.{CertificateInput, Checked}
+use Rattle.semantics.specs.Reader.{Result}
+use Rattle.semantics.specs.Refusals.{memorySize}
+use Rattle.semantics.specs.Formats.{Input, ladder, WellFormedInput}
+use Rattle.semantics.specs.Served.{Served}
 use Rattle.semantics.proofs.FormatsFacts.{ladder-read}
-use Rattle.words.specs.Subheap.{Told}
 use Rattle.block.specs.Layout.{inputIn}
 use Rattle.formats.specs.Refusal.{Read}
 use Rattle.formats.proofs.Answers.{is-accepted, is-refused, accepted-long}
@@ -21,14 +21,15 @@ module _ {book snapshot question rules heap query : List ℕ} {r : Ladder} where
   pub block-long : Read book snapshot question rules heap query r → r ≡ Accepted → length rules ≡ 1168
   block-long h q = accepted-long (rw q at h)
 
-  -- the check's three ways out
-  pub unread : {words : List ℕ} {n : ℕ} → Read book snapshot question rules heap query r → r ≡ Refused n → Checked book snapshot question words (record { refusal = n; taken = 0 })
-  unread h q = Checked.unread _ (is-refused _ (rw q at h)) refl
+  module _ {Lends : Type 0} {Refuses : ℕ → Type 0} {Answered : Input → Type 0} where
+    pub unread : {n : ℕ} → Read book snapshot question rules heap query r → r ≡ Refused n → Refuses n
+        → Served (λ (s : Result Input). ladder book snapshot question ≡ s) Lends Refuses Answered
+    unread h q k = Served.unread _ (is-refused _ (rw q at h)) k
 
-  pub taken : {words : List ℕ} {b : Bool} → Read book snapshot question rules heap query r → r ≡ Accepted → Told b (CertificateInput (inputIn rules heap query) words) → b ≡ true
-      → Checked book snapshot question words (record { refusal = 0; taken = 1 })
-  taken h q t e = Checked.takes (inputIn rules heap query) (is-accepted (rw q at h)) (t .so e) refl
+    pub unlent : Read book snapshot question rules heap query r → r ≡ Accepted → ¬ Lends → Refuses memorySize
+        → Served (λ (s : Result Input). ladder book snapshot question ≡ s) Lends Refuses Answered
+    unlent h q n k = Served.unlent (inputIn rules heap query) (is-accepted (rw q at h)) n k
 
-  pub not-taken : {words : List ℕ} {b : Bool} → Read book snapshot question rules heap query r → r ≡ Accepted → Told b (CertificateInput (inputIn rules heap query) words) → b ≡ false
-      → Checked book snapshot question words (record { refusal = 0; taken = 0 })
-  not-taken h q t e = Checked.takes-not (inputIn rules heap query) (is-accepted (rw q at h)) (t .not-so e) refl
+    pub answered : Read book snapshot question rules heap query r → r ≡ Accepted → Lends → Answered (inputIn rules heap query)
+        → Served (λ (s : Result Input). ladder book snapshot question ≡ s) Lends Refuses Answered
+    answered h q l k = Served.answered (inputIn rules heap query) (is-accepted (rw q at h)) l k

@@ -1,9 +1,9 @@
 -- The three demands, as statements about every outcome that the contracts of `decide` and `check` allow. The functions of this crate are
 -- proved to meet these contracts for all bytes, lengths and lent memory, and to end.
 use mathlib.Core.Path.{_≡_, sym, ap, _∙_}
-use mathlib.Core.Logic.{_↔_}
+use mathlib.Core.Logic.{_↔_, _≢_, ⊎-elim}
 use mathlib.Core.List.{List}
-use Prim.Native.Nat.{ℕ, _*_}
+use Prim.Native.Nat.{ℕ, _*_, _≤_}
 use native.Mathlib.Omega.{arith}
 use lib.ListN.{length, take}
 use Rattle.semantics.specs.Lists.{zeros}
@@ -11,91 +11,185 @@ use Rattle.semantics.specs.Heap.{wholeOf}
 use Rattle.semantics.specs.Reader.{accepted, refused}
 use Rattle.semantics.specs.Formats.{Input, ladder}
 use Rattle.semantics.specs.Certificate.{Opened}
-use Rattle.semantics.specs.Contract.{domainOf, FitsInput, CertificateInput, TrimmedInput, FilledInput, MoreFactsThan, Lent, padded, refusalReply, Answers, Decided, Checked}
+use Rattle.semantics.specs.Served.{Served}
+use Rattle.semantics.specs.Contract.{domainOf, FitsInput, CertificateInput, TrimmedInput, FilledInput, MoreFactsThan, Lent, padded, refusalReply, Refuses, Answers, Decided, Checked}
 use Rattle.semantics.specs.declared.Reply.{Reply}
 use Rattle.semantics.specs.declared.CheckReply.{CheckReply}
-use Rattle.semantics.proofs.Reached.{more-facts}
-use Rattle.semantics.proofs.ContractFacts.{same-input, same-number, clash}
+use Rattle.semantics.proofs.ServedFacts.{served-answered, unread-exactly, unlent-exactly, answered-exactly}
+use Rattle.semantics.proofs.ContractFacts.{one-ladder}
 use Rattle.semantics.proofs.Theorems as Theorems
+use Rattle.engine.proofs.AnswerFacts.{refusalIn, verdictIn, number-answered, eleven-answered, zero-answered, other-answered, verdict-answered, over-answered, table-answered, fits-answered, certificate-answered, empty-answered, refusedIn, takenIn, check-answered, taken-answered}
 
-module _ (book snapshot question table space : List ℕ) {r : Reply} {t x : List ℕ} where
+-- the ladder has no other number than 1 to 9
+module _ (book snapshot question : List ℕ) where
+  never : (n : ℕ) → ((1 ≤ n) × (n ≤ 9) → ⊥) → ¬ (ladder book snapshot question ≡ refused n)
+  never n k e = k (Theorems.refusals-one-to-nine book snapshot question n e)
+
+-- ---- the engine
+
+module _ (book snapshot question table space : List ℕ) {r : Reply} {t x : List ℕ} (decided : Decided book snapshot question table space r t x) where
+  shown : (n : ℕ) → Refuses r table space t x n → r .refusal ≡ n
+  shown n k = ap refusalIn (k .is-reply)
+
   -- ---- demand 1: a verdict or a numbered refusal, in order, with lent memory as promised
 
-  -- Refusals 1 to 9 are those of the ladder; nothing lent is changed, and all other numbers are 0.
-  pub refusal-by-ladder : Decided book snapshot question table space r t x → (n : ℕ) → ladder book snapshot question ≡ refused n
-      → (r ≡ refusalReply n) × (t ≡ table) × (x ≡ space)
-  refusal-by-ladder (Decided.unread m e a b c) n f = (a ∙ ap refusalReply (same-number e f), b, c)
-  refusal-by-ladder (Decided.unlent i e l a b c) n f = absurd (clash e f)
-  refusal-by-ladder (Decided.answered i e l w) n f = absurd (clash e f)
+  -- Each of 1 to 9 is given exactly where the ladder gives it.
+  pub refusal-by-ladder : (n : ℕ) → 1 ≤ n → n ≤ 9 → (r .refusal ≡ n) ↔ (ladder book snapshot question ≡ refused n)
+  refusal-by-ladder n low high =
+      unread-exactly (one-ladder book snapshot question) (r .refusal) shown n (λ e. omega arith)
+      (λ i w e. ⊎-elim (λ z. omega (arith, z .0)) (λ z. omega (arith, z .0)) (number-answered w)) decided
 
-  -- Then refusal 10, where the memory lent is not as it must be, with nothing changed either.
-  pub refusal-ten : Decided book snapshot question table space r t x → (i : Input) → ladder book snapshot question ≡ accepted i
-      → ¬ Lent (length table) (length space) → (r ≡ refusalReply 10) × (t ≡ table) × (x ≡ space)
-  refusal-ten (Decided.unread m e a b c) i f n = absurd (clash f e)
-  refusal-ten (Decided.unlent j e l a b c) i f n = (a, b, c)
-  refusal-ten (Decided.answered j e l w) i f n = absurd (n l)
+  -- 10 is given exactly where all is read and the lent memory is not as it must be.
+  pub refusal-ten : (r .refusal ≡ 10) ↔ ((i : Input) × (ladder book snapshot question ≡ accepted i) × (¬ Lent (length table) (length space)))
+  refusal-ten =
+      unlent-exactly (one-ladder book snapshot question) (r .refusal) shown (never book snapshot question 10 (λ z. omega (arith, z .1)))
+      (λ i w e. ⊎-elim (λ z. omega (arith, z .0)) (λ z. omega (arith, z .0)) (number-answered w)) decided
 
-  -- Otherwise the engine answers what was read.
-  pub answers : Decided book snapshot question table space r t x → (i : Input) → ladder book snapshot question ≡ accepted i
-      → Lent (length table) (length space) → Answers i (length table) r t x
-  answers (Decided.unread m e a b c) i f l = absurd (clash f e)
-  answers (Decided.unlent j e n a b c) i f l = absurd (n l)
-  answers (Decided.answered j e l w) i f l′ = rw (same-input f e) w
+  -- 11 is given exactly where all is read, the memory is as it must be, and there are more facts than lines.
+  pub refusal-eleven : (r .refusal ≡ 11)
+      ↔ ((i : Input) × (ladder book snapshot question ≡ accepted i) × Lent (length table) (length space) × MoreFactsThan i (length table))
+  refusal-eleven =
+      answered-exactly (one-ladder book snapshot question) (r .refusal) shown 11 (λ e. omega arith) (never book snapshot question 11 (λ z. omega (arith, z .1)))
+      (λ i w. eleven-answered w) decided
 
-module _ (i : Input) (n : ℕ) {r : Reply} {t x : List ℕ} where
-  -- Refusal 11 is given exactly where there are more facts than lines, and leaves all memory 0.
-  pub refusal-eleven : Answers i n r t x → r .refusal ≡ 11 → MoreFactsThan i n × (t ≡ zeros n) × (x ≡ zeros (3 * n))
-  refusal-eleven (Answers.over m a b c) e = (m, b, c)
-  refusal-eleven (Answers.fits rounds facts words f v u a c) e = absurd (omega (arith, ap (λ (r : Reply). r .refusal) a))
-  refusal-eleven (Answers.fits-not rounds facts f v a c) e = absurd (omega (arith, ap (λ (r : Reply). r .refusal) a))
+  -- Nothing is refused exactly where all is read, the memory is as it must be, and the facts have space.
+  pub no-refusal : (r .refusal ≡ 0)
+      ↔ ((i : Input) × (ladder book snapshot question ≡ accepted i) × Lent (length table) (length space) × (¬ MoreFactsThan i (length table)))
+  no-refusal =
+      answered-exactly (one-ladder book snapshot question) (r .refusal) shown 0 (λ e. omega arith) (never book snapshot question 0 (λ z. omega (arith, z .0)))
+      (λ i w. zero-answered w) decided
 
-  pub eleven-exact : Answers i n r t x → MoreFactsThan i n → r .refusal ≡ 11
-  eleven-exact (Answers.over m a b c) more = ap (λ (r : Reply). r .refusal) a
-  eleven-exact (Answers.fits rounds facts words f v u a c) more = absurd (omega (arith, f .room, more-facts i (f .completed) n .0 more))
-  eleven-exact (Answers.fits-not rounds facts f v a c) more = absurd (omega (arith, f .room, more-facts i (f .completed) n .0 more))
+  -- Always: no number beyond 11, no verdict beyond 1, and with a refusal all other numbers are 0.
+  pub refusal-most : r .refusal ≤ 11
+  refusal-most = by decided
+    where
+      by : Decided book snapshot question table space r t x → r .refusal ≤ 11
+      by (Served.unread n e k) = omega (arith, shown n k, Theorems.refusals-one-to-nine book snapshot question n e .1)
+      by (Served.unlent i e l k) = omega (arith, shown 10 k)
+      by (Served.answered i e l w) = ⊎-elim (λ z. omega (arith, z .0)) (λ z. omega (arith, z .0)) (number-answered w)
 
-  -- ---- demand 2: the table is the least fixed point, in order, counted, with its rounds
+  pub verdict-most : r .verdict ≤ 1
+  verdict-most = by decided
+    where
+      by : Decided book snapshot question table space r t x → r .verdict ≤ 1
+      by (Served.unread n e k) = omega (arith, ap verdictIn (k .is-reply))
+      by (Served.unlent i e l k) = omega (arith, ap verdictIn (k .is-reply))
+      by (Served.answered i e l w) = verdict-answered w
 
-  pub table-filled : Answers i n r t x → r .refusal ≡ 0 → (facts : List ℕ) × FilledInput i n (r .rounds) facts t × (length facts ≡ r .facts)
-  table-filled (Answers.over m a b c) e = absurd (omega (arith, ap (λ (r : Reply). r .refusal) a))
-  table-filled (Answers.fits rounds facts words f v u a c) e =
-      (facts, rw (ap (λ (r : Reply). r .rounds) a) f, sym (ap (λ (r : Reply). r .facts) a))
-  table-filled (Answers.fits-not rounds facts f v a c) e =
-      (facts, rw (ap (λ (r : Reply). r .rounds) a) f, sym (ap (λ (r : Reply). r .facts) a))
+  pub refused-alone : r .refusal ≢ 0 → r ≡ refusalReply (r .refusal)
+  refused-alone other = by decided
+    where
+      by : Decided book snapshot question table space r t x → r ≡ refusalReply (r .refusal)
+      by (Served.unread n e k) = k .is-reply ∙ ap refusalReply (sym (shown n k))
+      by (Served.unlent i e l k) = k .is-reply ∙ ap refusalReply (sym (shown 10 k))
+      by (Served.answered i e l w) = let q = other-answered w other in over-answered w q .0 ∙ ap refusalReply (sym q)
 
-  -- ---- demand 3: fits is what a finished tree by hand shows, and nothing else
+  -- Refusals 1 to 10 leave all memory as it was found, and 11 leaves zeros.
+  pub refused-keeps : 1 ≤ r .refusal → r .refusal ≤ 10 → (t ≡ table) × (x ≡ space)
+  refused-keeps low high = by decided
+    where
+      by : Decided book snapshot question table space r t x → (t ≡ table) × (x ≡ space)
+      by (Served.unread n e k) = (k .same-table, k .same-space)
+      by (Served.unlent i e l k) = (k .same-table, k .same-space)
+      by (Served.answered i e l w) = absurd (⊎-elim (λ z. omega (arith, z .0)) (λ z. omega (arith, z .0)) (number-answered w))
 
-  pub fits-exactly : Answers i n r t x → r .refusal ≡ 0 → ((r .verdict ≡ 1) ↔ FitsInput i) × ((r .verdict ≡ 0) ↔ (¬ FitsInput i))
-  fits-exactly (Answers.over m a b c) e = absurd (omega (arith, ap (λ (r : Reply). r .refusal) a))
-  fits-exactly (Answers.fits rounds facts words f v u a c) e =
-      let q = ap (λ (r : Reply). r .verdict) a in ((λ _. v, λ _. q), (λ z. absurd (omega (arith, q)), λ k. absurd (k v)))
-  fits-exactly (Answers.fits-not rounds facts f v a c) e =
-      let q = ap (λ (r : Reply). r .verdict) a in ((λ z. absurd (omega (arith, q)), λ k. absurd (v k)), (λ _. v, λ _. q))
+  pub refused-clears : r .refusal ≡ 11 → (t ≡ zeros (length table)) × (x ≡ zeros (length space))
+  refused-clears e =
+      let (i, is-read, lent, more) = refusal-eleven .0 e in
+      let (a, b, c) = over-answered (served-answered (one-ladder book snapshot question) decided is-read lent) e in
+      (b, c ∙ ap zeros (sym (lent .three)))
 
-  -- With fits comes a certificate of the engine's kind: the unfolding space has its words and then zeros, and the reply tells how many
-  -- lines it has.
-  pub fits-certified : Answers i n r t x → r .verdict ≡ 1 → (words : List ℕ) × (u : TrimmedInput i words) × (r .lines ≡ u .taken .count) × (x ≡ padded (3 * n) words)
-  fits-certified (Answers.over m a b c) e = absurd (omega (arith, ap (λ (r : Reply). r .verdict) a))
-  fits-certified (Answers.fits rounds facts words f v u a c) e = (words, u, ap (λ (r : Reply). r .lines) a, c)
-  fits-certified (Answers.fits-not rounds facts f v a c) e = absurd (omega (arith, ap (λ (r : Reply). r .verdict) a))
+  -- The user's own premises: the ladder gives no refusal, the lent memory is as it must be, and the facts have space.
+  module _ (i : Input) (is-read : ladder book snapshot question ≡ accepted i) (lent : Lent (length table) (length space)) (space-left : ¬ MoreFactsThan i (length table)) where
+    answers : Answers i (length table) r t x
+    answers = served-answered (one-ladder book snapshot question) decided is-read lent
 
-module _ (book snapshot question : List ℕ) where
+    pub unrefused : r .refusal ≡ 0
+    unrefused = zero-answered answers .1 space-left
+
+    -- ---- demand 2: the table is the least fixed point, in order, counted, with its rounds
+
+    pub table-filled : (facts : List ℕ) × FilledInput i (length table) (r .rounds) facts t × (length facts ≡ r .facts)
+    table-filled = table-answered answers unrefused
+
+    -- ---- demand 3: fits is what a finished tree by hand shows, and nothing else
+
+    pub fits-exactly : ((r .verdict ≡ 1) ↔ FitsInput i) × ((r .verdict ≡ 0) ↔ (¬ FitsInput i))
+    fits-exactly = fits-answered answers unrefused
+
+    -- With fits comes a certificate of the engine's kind: the unfolding space has its words and then zeros, and the reply tells how many
+    -- lines it has. Without, the space has zeros.
+    pub fits-certified : r .verdict ≡ 1 → (words : List ℕ) × (u : TrimmedInput i words) × (r .lines ≡ u .taken .count) × (x ≡ padded (length space) words)
+    fits-certified e =
+        let (words, u, count, is-space) = certificate-answered answers e in
+        (words, u, count, is-space ∙ ap (λ (n : ℕ). padded n words) (sym (lent .three)))
+
+    pub fits-not-empty : r .verdict ≡ 0 → (r .lines ≡ 0) × (x ≡ zeros (length space))
+    fits-not-empty e = let (none, is-space) = empty-answered answers e in (none, is-space ∙ ap zeros (sym (lent .three)))
+
   -- The check takes what the engine writes.
-  pub written-is-taken : (table space : List ℕ) {r : Reply} {t x : List ℕ} → Decided book snapshot question table space r t x → r .verdict ≡ 1
-      → Checked book snapshot question (take (3 * r .lines) x) (record { refusal = 0; taken = 1 })
-  written-is-taken = Theorems.decided-checks book snapshot question
+  pub written-is-taken : r .verdict ≡ 1 → Checked book snapshot question (take (3 * r .lines) x) (record { refusal = 0; taken = 1 })
+  written-is-taken = Theorems.decided-checks book snapshot question table space decided
 
-  module _ (words : List ℕ) (i : Input) (is-read : ladder book snapshot question ≡ accepted i) where
-    -- It takes exactly what meets the conditions for lines.
-    pub taken-exactly : {r : CheckReply} → Checked book snapshot question words r → (r .refusal ≡ 0) × ((r .taken ≡ 1) ↔ CertificateInput i words)
-    taken-exactly (Checked.unread n e a) = absurd (clash is-read e)
-    taken-exactly (Checked.takes j e c a) =
-        (ap (λ (r : CheckReply). r .refusal) a, (λ _. rw (same-input is-read e) c, λ _. ap (λ (r : CheckReply). r .taken) a))
-    taken-exactly (Checked.takes-not j e c a) =
-        (ap (λ (r : CheckReply). r .refusal) a, (λ q. absurd (omega (arith, ap (λ (r : CheckReply). r .taken) a)), λ k. absurd (c (rw (same-input is-read e) at k))))
+-- ---- the check
 
-    -- A certificate stands for a tree by hand: its last line, opened, is a finished tree of the query that has the whole heap. So the
-    -- query fits.
-    pub taken-opens : (c : CertificateInput i words)
-        → Opened (i .ruleSet) (i .heap) (domainOf i) words (c .count) (i .predicate) (i .values) (wholeOf (i .heap)) × FitsInput i
-    taken-opens = Theorems.certificate-opens i (Theorems.read-is-well-formed book snapshot question i is-read) words
+module _ (book snapshot question words : List ℕ) {r : CheckReply} (checked : Checked book snapshot question words r) where
+  check-shown : (n : ℕ) → r ≡ record { refusal = n; taken = 0 } → r .refusal ≡ n
+  check-shown n a = ap refusedIn a
+
+  -- Each of 1 to 9 is given exactly where the ladder gives it, and 0 exactly where it gives none.
+  pub check-refusal : (n : ℕ) → 1 ≤ n → n ≤ 9 → (r .refusal ≡ n) ↔ (ladder book snapshot question ≡ refused n)
+  check-refusal n low high =
+      unread-exactly (one-ladder book snapshot question) (r .refusal) check-shown n (λ e. omega arith) (λ i w e. omega (arith, check-answered w .0)) checked
+
+  pub check-no-refusal : (r .refusal ≡ 0) ↔ ((i : Input) × (ladder book snapshot question ≡ accepted i))
+  check-no-refusal =
+      let e = answered-exactly (one-ladder book snapshot question) (r .refusal) check-shown 0 {Due = λ (i : Input). Unit {0}} (λ e. omega arith)
+      (never book snapshot question 0 (λ z. omega (arith, z .0))) (λ i w. (λ _. tt, λ _. check-answered w .0)) checked in
+      (λ z. (e .0 z .0, e .0 z .1), λ (i, is-read). e .1 (i, is-read, tt, tt))
+
+  -- Always: no number beyond 9, no second number beyond 1, and with a refusal that is 0.
+  pub check-refusal-most : r .refusal ≤ 9
+  check-refusal-most = by checked
+    where
+      by : Checked book snapshot question words r → r .refusal ≤ 9
+      by (Served.unread n e a) = omega (arith, check-shown n a, Theorems.refusals-one-to-nine book snapshot question n e .1)
+      by (Served.unlent i e l a) = absurd (l tt)
+      by (Served.answered i e l w) = omega (arith, check-answered w .0)
+
+  pub taken-most : r .taken ≤ 1
+  taken-most = by checked
+    where
+      by : Checked book snapshot question words r → r .taken ≤ 1
+      by (Served.unread n e a) = omega (arith, ap takenIn a)
+      by (Served.unlent i e l a) = absurd (l tt)
+      by (Served.answered i e l w) = taken-answered w
+
+  pub check-refused-alone : r .refusal ≢ 0 → r .taken ≡ 0
+  check-refused-alone other = by checked
+    where
+      by : Checked book snapshot question words r → r .taken ≡ 0
+      by (Served.unread n e a) = ap takenIn a
+      by (Served.unlent i e l a) = absurd (l tt)
+      by (Served.answered i e l w) = absurd (other (check-answered w .0))
+
+  -- It takes exactly what is read and meets the conditions for lines.
+  pub taken-only : (r .taken ≡ 1) ↔ ((i : Input) × (ladder book snapshot question ≡ accepted i) × CertificateInput i words)
+  taken-only = (by checked, λ (i, is-read, c). check-answered (served-answered (one-ladder book snapshot question) checked is-read tt) .1 .1 c)
+    where
+      by : Checked book snapshot question words r → r .taken ≡ 1 → (i : Input) × (ladder book snapshot question ≡ accepted i) × CertificateInput i words
+      by (Served.unread n e a) z = absurd (omega (arith, ap takenIn a))
+      by (Served.unlent i e l a) z = absurd (l tt)
+      by (Served.answered i e l w) z = (i, e, check-answered w .1 .0 z)
+
+  -- The user's own premise: the ladder gives no refusal.
+  pub taken-exactly : (i : Input) → ladder book snapshot question ≡ accepted i
+      → (r .refusal ≡ 0) × ((r .taken ≡ 1) ↔ CertificateInput i words) × ((r .taken ≡ 0) ↔ (¬ CertificateInput i words))
+  taken-exactly i is-read = check-answered (served-answered (one-ladder book snapshot question) checked is-read tt)
+
+-- A certificate stands for a tree by hand: its last line, opened, is a finished tree of the query that has the whole heap. So the query
+-- fits.
+pub taken-opens : (book snapshot question words : List ℕ) (i : Input) → ladder book snapshot question ≡ accepted i → (c : CertificateInput i words)
+    → Opened (i .ruleSet) (i .heap) (domainOf i) words (c .count) (i .predicate) (i .values) (wholeOf (i .heap)) × FitsInput i
+taken-opens book snapshot question words i is-read =
+    Theorems.certificate-opens i (Theorems.read-is-well-formed book snapshot question i is-read) words

@@ -9,7 +9,6 @@ use Rattle.block.specs.Layout.{ruleSetIn, heapIn, inputIn}
 use Rattle.formats.specs.Cursor.{upto, Yields}
 use Rattle.formats.specs.Layout.{aritiesIn}
 use Rattle.formats.specs.Refusal.{resultOf, unlessMore, finished, queryIn, Read}
-use Rattle.formats.specs.Refusal.Read.{refuses, accepts}
 use Rattle.formats.specs.declared.Cursor.{Cursor}
 use Rattle.formats.specs.declared.Cursor.the-variants.{At, Fault}
 use Rattle.formats.specs.declared.Ladder.{Ladder}
@@ -28,18 +27,19 @@ pub finish-is : {A : Type 0} {bytes : List ℕ} {c : Cursor} {a : A} (more : ℕ
 finish-is {A} {bytes} {c} {a} more read h = ap (λ (g : Got A). all more g) (h .is) ∙ all-upto more bytes c a
 
 -- The three parts, one after the other: the first refusal is the ladder's.
-pub book-refused : (book snapshot question rules heap query : List ℕ) (n : ℕ) → readRuleSet book ≡ refused n → Read book snapshot question rules heap query (Refused n)
-unfolding ladder
-book-refused book snapshot question rules heap query n e = refuses refl (rw e)
-
-pub snapshot-refused : (book snapshot question rules heap query : List ℕ) (n : ℕ) → readRuleSet book ≡ accepted (ruleSetIn rules) → readSnapshot snapshot ≡ refused n
+pub book-refused : (book snapshot question rules heap query : List ℕ) (n : ℕ) → readRuleSet book ≡ refused n → length rules ≡ 1168
     → Read book snapshot question rules heap query (Refused n)
 unfolding ladder
-snapshot-refused book snapshot question rules heap query n e f = refuses refl (rw (e, f))
+book-refused book snapshot question rules heap query n e l = record { is = rw e; long = l }
+
+pub snapshot-refused : (book snapshot question rules heap query : List ℕ) (n : ℕ) → readRuleSet book ≡ accepted (ruleSetIn rules) → readSnapshot snapshot ≡ refused n
+    → length rules ≡ 1168 → Read book snapshot question rules heap query (Refused n)
+unfolding ladder
+snapshot-refused book snapshot question rules heap query n e f l = record { is = rw (e, f); long = l }
 
 pub all-read : (book snapshot question rules heap query : List ℕ) (r : Ladder) → readRuleSet book ≡ accepted (ruleSetIn rules)
     → readSnapshot snapshot ≡ accepted (heapIn heap) → readQuery (aritiesIn rules) question ≡ resultOf r (queryIn query)
     → length rules ≡ 1168 → Read book snapshot question rules heap query r
 unfolding ladder ruleSetIn inputIn
-all-read book snapshot question rules heap query Accepted e f g l = accepts refl l (rw (e, f, g))
-all-read book snapshot question rules heap query (Refused n) e f g l = refuses refl (rw (e, f, g))
+all-read book snapshot question rules heap query Accepted e f g l = record { is = rw (e, f, g); long = l }
+all-read book snapshot question rules heap query (Refused n) e f g l = record { is = rw (e, f, g); long = l }

@@ -7,14 +7,14 @@ use native.Mathlib.Numerals.{add-one}
 use native.Mathlib.Omega.{arith}
 use lib.ListN.{getD}
 use Rattle.semantics.specs.Heap.{Record, Heap}
-use Rattle.semantics.specs.Reader.{Got, got, fault, onward, _>>=_, give, counted}
+use Rattle.semantics.specs.Reader.{Got, got, fault, onward, _>>=_, give, word, counted}
 use Rattle.semantics.specs.Formats.{value, address, records, snapshot}
 use Rattle.words.specs.Entries.{tabulate}
 use Rattle.block.specs.Layout.{recordIn, heapIn}
 use Rattle.words.proofs.Tabulate.{tabulate-more}
 use Rattle.formats.specs.Cursor.{Yields}
-use Rattle.formats.specs.HeapLayout.{valueLayout, addressLayout, sizeLayout, record-above, recordLayout, recordsLayout}
-use Rattle.formats.specs.Layout.{Fills, many, Any}
+use Rattle.formats.specs.HeapLayout.{valueLayout, addressLayout, sizeLayout, record-above, recordLayout, recordsLayout, AfterWord}
+use Rattle.formats.specs.Layout.{Layout, Fills, many, Any}
 use Rattle.formats.specs.declared.Cursor.{Cursor}
 use Rattle.formats.proofs.Chain.{chain, done, alike}
 use Rattle.formats.proofs.Counting.{threaded, left, left-snoc, threaded-none, threaded-more, ranged-then, counted-read}
@@ -33,21 +33,26 @@ record-local low = record {
       (rw (here at (omega arith) (omega arith), e, fields), rw (← e) at s);
 }
 
-pub record-fills : (low at : ℕ) {bytes : List ℕ} {c c₁ c₂ c₃ : Cursor} {b b₁ b₂ b₃ : List ℕ} → Fills (addressLayout low) at bytes c b b₁ c₁
+-- address, count and fields of a record whose address was read, and the record from that address on
+pub record-after : (low at : ℕ) {bytes : List ℕ} {c c₁ c₂ c₃ : Cursor} {v : ℕ} {b b₁ b₂ b₃ : List ℕ} → AfterWord (addressLayout low) at bytes c v b b₁ c₁
     → Fills (sizeLayout 4) (at + 1) bytes c₁ b₁ b₂ c₂ → Fills (many (getD b₂ (at + 1) 0) (valueLayout 5)) (at + 2) bytes c₂ b₂ b₃ c₃
-    → Fills (recordLayout low) at bytes c b b₃ c₃
-record-fills low at {bytes} {c₃ = c₃} {b} {b₁} {b₂} {b₃} above count fields =
+    → AfterWord (recordLayout low) at bytes c v b b₃ c₃
+record-after low at {bytes} {c₃ = c₃} {b = b} {b₁ = b₁} {b₂ = b₂} {b₃ = b₃} above count fields =
     let a : getD b₃ at 0 ≡ getD b₁ at 0 = fields .kept .same at (inl (omega arith)) ∙ count .kept .same at (inl (omega arith)) in
     let m : getD b₃ (at + 1) 0 ≡ getD b₂ (at + 1) 0 = fields .kept .same (at + 1) (inl (omega arith)) in
     record {
-      reads =
+      reads = λ c₀ y.
           rw (a, m, ← ones b₃ (at + 2) (getD b₂ (at + 1) 0))
-          (chain _ (above .reads) (chain _ (counted-read 5 6 4 (value 5) (count .reads) (fields .reads)) (done bytes c₃ _)));
+          (chain _ (above .reads c₀ y) (chain _ (counted-read 5 6 4 (value 5) (count .reads) (fields .reads)) (done bytes c₃ _)));
       sized = rw m (count .sized .high);
       kept =
           kept-both at (at + 6) (kept-both at (at + 6) (above .kept) (count .kept) (omega arith) (omega arith) (omega arith) (omega arith)) (fields .kept)
           (omega arith) (omega arith) (omega arith) (omega (arith, count .sized .high));
     }
+
+pub from-word : {A : Type 0} {layout : Layout A} {at : ℕ} {bytes : List ℕ} {c₀ c r : Cursor} {v : ℕ} {b b′ : List ℕ} → Yields (word 5) bytes c₀ c v
+    → AfterWord layout at bytes c v b b′ r → Fills layout at bytes c₀ b b′ r
+from-word {c₀ = c₀} y h = record { reads = h .reads c₀ y; sized = h .sized; kept = h .kept }
 
 -- the definition's records, each reader after the address that the record before left behind
 abbrev addressOf : Record → ℕ

@@ -1,5 +1,6 @@
 pub mod Answers
 pub mod Left
+pub mod Carry
 pub mod Chain
 pub mod Heading
 pub mod HeapParts

@@ -14,7 +14,7 @@ use Rattle.formats.specs.declared.Cursor.{Cursor}
 use Rattle.formats.proofs.Chain.{chain, done, passed, failed, become, alike}
 
 term-in : (v : ℕ) → v < 128 → var v ≡ termIn v
-term-in v l = rw (ne-eqb v 128 (λ e. omega arith), termIn)
+term-in v l = rw (lt-ltb v 128 l, termIn)
 
 -- what a byte says as a term
 module _ (bytes : List ℕ) (c c₁ : Cursor) (n v : ℕ) (h : Yields (byte 1) bytes c c₁ v) where

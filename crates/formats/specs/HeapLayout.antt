@@ -1,12 +1,15 @@
 -- How the entries of a snapshot and of a query are read and where they lie in a block of numbers.
+use mathlib.Core.List.{List}
+use mathlib.Core.Path.{_≡_}
 use Prim.Native.Nat.{ℕ, _+_, _≤_}
-use lib.ListN.{getD}
+use lib.ListN.{length, getD}
 use Rattle.semantics.specs.Heap.{Record, Heap}
-use Rattle.semantics.specs.Reader.{Reader, _>>=_, give, counted}
-use Rattle.semantics.specs.Formats.{value, address, records}
-use Rattle.block.specs.Layout.{recordIn}
-use Rattle.formats.specs.Cursor.{rangedByte, Within}
-use Rattle.formats.specs.Layout.{Layout, single, row, Any}
+use Rattle.semantics.specs.Reader.{Reader, _>>=_, give, word, counted}
+use Rattle.semantics.specs.Formats.{value, address, records, snapshot}
+use Rattle.block.specs.Layout.{recordIn, heapIn}
+use Rattle.formats.specs.Cursor.{Yields, rangedByte, Within}
+use Rattle.formats.specs.Layout.{Layout, Kept, single, row, Any}
+use Rattle.formats.specs.declared.Cursor.{Cursor}
 
 -- A value, an address above `low`, and a count of at most `most`.
 abbrev pub valueLayout : ℕ → Layout ℕ
@@ -31,3 +34,19 @@ recordLayout low = record { read = record-above low; held = recordIn; Sized = λ
 -- Records in order, from the start of the heap.
 abbrev pub recordsLayout : ℕ → Layout Heap
 recordsLayout count = row count (records count 0) (recordLayout 0)
+
+-- What is promised after four bytes that were read up to a cursor: the entry that begins with them, from wherever that was, lies at its
+-- place, and the rest of the block is as before.
+pub record AfterWord {A : Type 0} (layout : Layout A) (at : ℕ) (bytes : List ℕ) (c : Cursor) (v : ℕ) (block block′ : List ℕ) (r : Cursor) : Type 0 where
+  pub reads : (c₀ : Cursor) → Yields (word 5) bytes c₀ c v → Yields (layout .read) bytes c₀ r (layout .held block′ at)
+  pub sized : layout .Sized block′ at
+  pub kept : Kept at (at + layout .width) block block′
+
+-- An address needs no other byte.
+abbrev pub AddressAfter : (low at : ℕ) → Cursor → ℕ → List ℕ → List ℕ → Cursor → Type 0
+AddressAfter low at c v block block′ r = (bytes : List ℕ) → AfterWord (addressLayout low) at bytes c v block block′ r
+
+-- What the reader of the snapshot's section promises.
+pub record HeapFills (bytes : List ℕ) (c : Cursor) (block block′ : List ℕ) (r : Cursor) : Type 0 where
+  pub reads : Yields snapshot bytes c r (heapIn block′)
+  pub long : length block′ ≡ length block

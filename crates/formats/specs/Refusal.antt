@@ -13,11 +13,6 @@ use Rattle.formats.specs.declared.Cursor.the-variants.{At, Fault}
 use Rattle.formats.specs.declared.Ladder.{Ladder}
 use Rattle.formats.specs.declared.Ladder.the-variants.{Accepted, Refused}
 
--- Paper 01's number of an answer: 0 where nothing is refused.
-abbrev pub numberOf : Ladder → ℕ
-numberOf Accepted = 0
-numberOf (Refused n) = n
-
 -- The result that an answer stands for, where `a` is what was read.
 abbrev pub resultOf : {A : Type 0} → Ladder → A → Result A
 resultOf Accepted a = accepted a
@@ -51,7 +46,7 @@ pub record QueryRead (arities question block block′ : List ℕ) (r : Ladder) :
   pub is : readQuery arities question ≡ resultOf r (queryIn block′)
   pub long : length block′ ≡ length block
 
--- What `read` promises: the ladder refuses with the number of the answer, or it accepts what the three blocks hold.
-pub data Read (book snapshot question rules heap query : List ℕ) (r : Ladder) : Type 0 where
-  refuses : r ≡ Refused (numberOf r) → ladder book snapshot question ≡ refused (numberOf r) → Read book snapshot question rules heap query r
-  accepts : r ≡ Accepted → length rules ≡ 1168 → ladder book snapshot question ≡ accepted (inputIn rules heap query) → Read book snapshot question rules heap query r
+-- What `read` promises: the answer is the ladder's, and what is accepted is what the three blocks hold.
+pub record Read (book snapshot question rules heap query : List ℕ) (r : Ladder) : Type 0 where
+  pub is : ladder book snapshot question ≡ resultOf r (inputIn rules heap query)
+  pub long : length rules ≡ 1168

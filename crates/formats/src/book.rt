@@ -6,6 +6,26 @@ use super::bytes::byte;
 use super::bytes::finish;
 use super::bytes::ranged;
 use super::bytes::stop;
+use block::ARGUMENTS;
+use block::ARITIES;
+use block::ATOM_SIZE;
+use block::ATOMS;
+use block::BOUND;
+use block::CALL_SIZE;
+use block::CALLS;
+use block::FIELDS;
+use block::FIRST_ATOM;
+use block::FIRST_CALL;
+use block::FIRST_PURE;
+use block::FIRST_RULE;
+use block::LEFT;
+use block::PREDICATES;
+use block::PURE_SIZE;
+use block::PURES;
+use block::RIGHT;
+use block::RULE_SIZE;
+use block::RULES;
+use block::SIZE;
 ghost use mathlib.Core.Path.{_≡_};
 ghost use Prim.Native.Nat.{_+_, _*_, _≤_, _<_};
 ghost use lib.ListN.{length};
@@ -108,8 +128,8 @@ fn pure(s: &[u8], c: Cursor, block: &mut [u8], at: usize, n: u8) -> Cursor
     ensures { λ r. ⌜ Fills (pureLayout n) at (now (s .entry)) c (now (block .entry)) (now (block .exit)) r ⌝ }
 {
     let left = named(s, c, block, at, KINDS);
-    let right = term(s, left, block, at + 1, n);
-    term(s, right, block, at + 2, n)
+    let right = term(s, left, block, at + LEFT, n);
+    term(s, right, block, at + RIGHT, n)
 }
 
 // `count` pure conditions.
@@ -121,7 +141,7 @@ fn pures(s: &[u8], c: Cursor, block: &mut [u8], from: usize, count: u8, n: u8) -
     let mut next = c;
     let mut k: usize = 0;
     while k < most {
-        next = pure(s, next, block, from + 3 * k, n);
+        next = pure(s, next, block, from + PURE_SIZE * k, n);
         k += 1;
     }
     next
@@ -133,9 +153,9 @@ fn atom(s: &[u8], c: Cursor, block: &mut [u8], at: usize, n: u8) -> Cursor
     ensures { λ r. ⌜ Fills (atomLayout n) at (now (s .entry)) c (now (block .entry)) (now (block .exit)) r ⌝ }
 {
     let number = named(s, c, block, at, n);
-    let fields = count(s, number, block, at + 1, 0, MOST_FIELDS);
-    let most = block[at + 1];
-    terms(s, fields, block, at + 2, most, n)
+    let fields = count(s, number, block, at + SIZE, 0, MOST_FIELDS);
+    let most = block[at + SIZE];
+    terms(s, fields, block, at + FIELDS, most, n)
 }
 
 // `count` points-to atoms.
@@ -147,7 +167,7 @@ fn atoms(s: &[u8], c: Cursor, block: &mut [u8], from: usize, count: u8, n: u8) -
     let mut next = c;
     let mut k: usize = 0;
     while k < most {
-        next = atom(s, next, block, from + 6 * k, n);
+        next = atom(s, next, block, from + ATOM_SIZE * k, n);
         k += 1;
     }
     next
@@ -158,11 +178,11 @@ fn call(s: &[u8], c: Cursor, block: &mut [u8], at: usize, n: u8) -> Cursor
     requires { ⌜ (n ≤ 8) × Header (now block) × (16 ≤ at) × (at + 5 ≤ length (now block)) ⌝ }
     ensures { λ r. ⌜ Fills (callLayout (aritiesIn (now (block .entry))) n) at (now (s .entry)) c (now (block .entry)) (now (block .exit)) r ⌝ }
 {
-    let predicates = block[0];
+    let predicates = block[PREDICATES];
     let arguments = named(s, c, block, at, predicates);
     let predicate = block[at] as usize;
-    let arity = block[8 + predicate];
-    terms(s, arguments, block, at + 1, arity, n)
+    let arity = block[ARITIES + predicate];
+    terms(s, arguments, block, at + ARGUMENTS, arity, n)
 }
 
 // `count` calls.
@@ -174,7 +194,7 @@ fn calls(s: &[u8], c: Cursor, block: &mut [u8], from: usize, count: u8, n: u8) -
     let mut next = c;
     let mut k: usize = 0;
     while k < most {
-        next = call(s, next, block, from + 5 * k, n);
+        next = call(s, next, block, from + CALL_SIZE * k, n);
         k += 1;
     }
     next
@@ -185,15 +205,15 @@ fn body(s: &[u8], c: Cursor, block: &mut [u8], at: usize, n: u8) -> Cursor
     requires { ⌜ (n ≤ 8) × Header (now block) × (16 ≤ at) × (at + 72 ≤ length (now block)) ⌝ }
     ensures { λ r. ⌜ Body at n (now (s .entry)) c (now (block .entry)) (now (block .exit)) r ⌝ }
 {
-    let c = count(s, c, block, at + 2, 0, MOST_PURES);
-    let k = block[at + 2];
-    let c = pures(s, c, block, at + 8, k, n);
-    let c = count(s, c, block, at + 3, 0, MOST_ATOMS);
-    let k = block[at + 3];
-    let c = atoms(s, c, block, at + 32, k, n);
-    let c = count(s, c, block, at + 4, 0, MOST_CALLS);
-    let k = block[at + 4];
-    calls(s, c, block, at + 56, k, n)
+    let c = count(s, c, block, at + PURES, 0, MOST_PURES);
+    let k = block[at + PURES];
+    let c = pures(s, c, block, at + FIRST_PURE, k, n);
+    let c = count(s, c, block, at + ATOMS, 0, MOST_ATOMS);
+    let k = block[at + ATOMS];
+    let c = atoms(s, c, block, at + FIRST_ATOM, k, n);
+    let c = count(s, c, block, at + CALLS, 0, MOST_CALLS);
+    let k = block[at + CALLS];
+    calls(s, c, block, at + FIRST_CALL, k, n)
 }
 
 // A rule: head, number of bound variables, and body. Head and bound variables are at most 8 together.
@@ -201,12 +221,12 @@ fn rule(s: &[u8], c: Cursor, block: &mut [u8], at: usize) -> Cursor
     requires { ⌜ Header (now block) × (16 ≤ at) × (at + 72 ≤ length (now block)) ⌝ }
     ensures { λ r. ⌜ Fills (ruleLayout (aritiesIn (now (block .entry)))) at (now (s .entry)) c (now (block .entry)) (now (block .exit)) r ⌝ }
 {
-    let predicates = block[0];
+    let predicates = block[PREDICATES];
     let c = named(s, c, block, at, predicates);
     let head = block[at] as usize;
-    let arity = block[8 + head];
-    let c = count(s, c, block, at + 1, 0, MOST_VARIABLES - arity);
-    let bound = block[at + 1];
+    let arity = block[ARITIES + head];
+    let c = count(s, c, block, at + BOUND, 0, MOST_VARIABLES - arity);
+    let bound = block[at + BOUND];
     body(s, c, block, at, arity + bound)
 }
 
@@ -219,13 +239,13 @@ fn rules(s: &[u8], c: Cursor, block: &mut [u8], from: usize, count: u8) -> Curso
     let mut next = c;
     let mut k: usize = 0;
     while k < most {
-        next = rule(s, next, block, from + 72 * k);
+        next = rule(s, next, block, from + RULE_SIZE * k);
         k += 1;
     }
     next
 }
 
-// The numbers of arguments of the predicates, from place 8 on.
+// The numbers of arguments of the predicates.
 fn arities(s: &[u8], c: Cursor, block: &mut [u8], predicates: u8) -> Cursor
     requires { ⌜ 8 + predicates ≤ length (now block) ⌝ }
     ensures { λ r. ⌜ Fills (many predicates (countLayout 0 4)) 8 (now (s .entry)) c (now (block .entry)) (now (block .exit)) r ⌝ }
@@ -234,7 +254,7 @@ fn arities(s: &[u8], c: Cursor, block: &mut [u8], predicates: u8) -> Cursor
     let mut next = c;
     let mut k: usize = 0;
     while k < most {
-        next = count(s, next, block, 8 + k, 0, MOST_ARGUMENTS);
+        next = count(s, next, block, ARITIES + k, 0, MOST_ARGUMENTS);
         k += 1;
     }
     next
@@ -245,12 +265,12 @@ fn rule_set(s: &[u8], c: Cursor, block: &mut [u8]) -> Cursor
     requires { ⌜ length (now block) ≡ 1168 ⌝ }
     ensures { λ r. ⌜ RuleSetFills (now (s .entry)) c (now (block .entry)) (now (block .exit)) r ⌝ }
 {
-    let c = count(s, c, block, 0, 1, MOST_PREDICATES);
-    let k = block[0];
+    let c = count(s, c, block, PREDICATES, 1, MOST_PREDICATES);
+    let k = block[PREDICATES];
     let c = arities(s, c, block, k);
-    let c = count(s, c, block, 1, 0, MOST_RULES);
-    let k = block[1];
-    rules(s, c, block, 16, k)
+    let c = count(s, c, block, RULES, 0, MOST_RULES);
+    let k = block[RULES];
+    rules(s, c, block, FIRST_RULE, k)
 }
 
 // The book, into a block of 1,168 bytes.

@@ -2,7 +2,7 @@
 use super::Cursor;
 use super::Entry;
 use super::Ladder;
-use super::reader::read_at;
+use super::reader::byte_at;
 ghost use mathlib.Core.Path.{_≡_};
 ghost use Prim.Native.Nat.{_≤_};
 ghost use Rattle.semantics.specs.Reader.{byte as byteReader};
@@ -14,7 +14,7 @@ pub(crate) fn byte(s: &[u8], c: Cursor, short: u8) -> Entry
     ensures { λ r. ⌜ Yields (byteReader short) (now (s .entry)) c (r .cursor) (r .value) ⌝ }
 {
     match c {
-        Cursor::At(at) => read_at(s, at, short),
+        Cursor::At(at) => byte_at(s, at, short),
         Cursor::Fault(n) => Entry {
             cursor: Cursor::Fault(n),
             value: 0,
@@ -73,7 +73,7 @@ pub(crate) fn finish(s: &[u8], c: Cursor, more: u8) -> Ladder
 {
     match c {
         Cursor::At(at) => {
-            let e = read_at(s, at, more);
+            let e = byte_at(s, at, more);
             let next = e.cursor;
             if let Cursor::At(_) = next {
                 return Ladder::Refused(more);

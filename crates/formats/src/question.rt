@@ -6,6 +6,11 @@ use super::bytes::finish;
 use super::bytes::ranged;
 use super::fields::values;
 use super::fields::wide;
+use block::ARITIES;
+use block::FIRST_VALUE;
+use block::PREDICATE;
+use block::PREDICATES;
+use block::VALUES;
 ghost use mathlib.Core.Path.{_≡_};
 ghost use lib.ListN.{length};
 ghost use Rattle.formats.specs.Layout.{aritiesIn, Header};
@@ -19,16 +24,16 @@ pub(crate) fn read_query(question: &[u8], rules: &[u8; 1168], query: &mut [u32])
     requires { ⌜ Header (now rules) × (length (now query) ≡ 6) ⌝ }
     ensures { λ r. ⌜ QueryRead (aritiesIn (now (rules .entry))) (now (question .entry)) (now (query .entry)) (now (query .exit)) r ⌝ }
 {
-    let predicates = rules[0];
+    let predicates = rules[PREDICATES];
     let name = below(question, Cursor::At(0), OFF, OFF, predicates);
     let predicate = name.value as usize;
-    let arity = rules[8 + predicate];
+    let arity = rules[ARITIES + predicate];
     let c = name.cursor;
     let count = ranged(question, c, OFF, OFF, arity, arity);
     let c = count.cursor;
     let k = wide(count.value);
-    query[0] = wide(name.value);
-    query[1] = k;
-    let c = values(question, c, query, 2, k, OFF);
+    query[PREDICATE] = wide(name.value);
+    query[VALUES] = k;
+    let c = values(question, c, query, FIRST_VALUE, k, OFF);
     finish(question, c, OFF)
 }

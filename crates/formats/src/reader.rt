@@ -1,18 +1,27 @@
-// The reader: the lent bytes, and how many of them have been read. Bytes are looked at here and nowhere else in the crate. A function
-// over a struct that holds a reference is proved by a walk of its code, so there are two, and neither branches; `byte_at` does the work.
-// `read_at` has plain parameters: whoever calls it needs no such walk.
+// The reader: the lent bytes, and where reading them stands. A function over a struct that holds a reference is proved by a walk of its
+// code, so these functions are few and none branches: each takes the reader apart, calls a function on slice and cursor, and hands the
+// reader back moved. `byte_at` is the one place of the crate that looks at the bytes.
 use super::Cursor;
 use super::Entry;
+use super::fields::word;
 ghost use mathlib.Core.Path.{_≡_};
-ghost use Rattle.formats.specs.Cursor.{nextByte};
+ghost use Rattle.semantics.specs.Reader.{word as wordReader};
+ghost use Rattle.formats.specs.Cursor.{nextByte, Yields};
 
 pub(crate) struct Reader<'a> {
     pub(crate) bytes: &'a [u8],
-    pub(crate) at: usize,
+    pub(crate) at: Cursor,
+}
+
+// A reader that has read four bytes, and the number that they are.
+pub(crate) struct Word<'a> {
+    pub(crate) bytes: &'a [u8],
+    pub(crate) at: Cursor,
+    pub(crate) value: u32,
 }
 
 // The byte at a place and where reading goes on; `short` is the fault where there is none.
-fn byte_at(s: &[u8], at: usize, short: u8) -> Entry
+pub(crate) fn byte_at(s: &[u8], at: usize, short: u8) -> Entry
     ensures { λ r. ⌜ r ≡ nextByte short (now (s .entry)) at ⌝ }
 {
     if at < s.len() {
@@ -28,24 +37,15 @@ fn byte_at(s: &[u8], at: usize, short: u8) -> Entry
 }
 
 impl<'a> Reader<'a> {
-    // A reader of these bytes that goes on at a place.
-    fn new(bytes: &'a [u8], at: usize) -> Reader<'a>
-        ensures { λ r. ⌜ (r .bytes ≡ bytes .entry) × (r .at ≡ at) ⌝ }
+    // Four bytes, lowest first.
+    pub(crate) fn word(self, short: u8) -> Word<'a>
+        ensures { λ r. ⌜ (r .bytes ≡ self .entry .bytes) × Yields (wordReader short) (now (self .entry .bytes)) (self .entry .at) (r .at) (r .value) ⌝ }
     {
-        Reader { bytes, at }
+        let n = word(self.bytes, self.at, short);
+        Word {
+            bytes: self.bytes,
+            at: n.cursor,
+            value: n.value,
+        }
     }
-
-    // The next byte.
-    fn next(self, short: u8) -> Entry
-        ensures { λ r. ⌜ r ≡ nextByte short (now (self .entry .bytes)) (self .entry .at) ⌝ }
-    {
-        byte_at(self.bytes, self.at, short)
-    }
-}
-
-// What a reader at a place of the bytes reads next.
-pub(crate) fn read_at(s: &[u8], at: usize, short: u8) -> Entry
-    ensures { λ r. ⌜ r ≡ nextByte short (now (s .entry)) at ⌝ }
-{
-    Reader::new(s, at).next(short)
 }

@@ -6,11 +6,16 @@ use super::bytes::ranged;
 use super::bytes::stop;
 use super::fields::values;
 use super::fields::wide;
-use super::fields::word;
+use super::reader::Reader;
+use block::FIELDS;
+use block::FIRST_RECORD;
+use block::RECORD_SIZE;
+use block::RECORDS;
+use block::SIZE;
 ghost use mathlib.Core.Path.{_≡_};
 ghost use Prim.Native.Nat.{_+_, _*_, _≤_, _<_};
 ghost use lib.ListN.{length};
-ghost use Rattle.formats.specs.HeapLayout.{addressLayout, sizeLayout, recordLayout, recordsLayout};
+ghost use Rattle.formats.specs.HeapLayout.{sizeLayout, recordLayout, recordsLayout, AfterWord, AddressAfter, HeapFills};
 ghost use Rattle.formats.specs.Layout.{Fills};
 ghost use Rattle.formats.specs.Refusal.{HeapRead};
 
@@ -28,19 +33,16 @@ const MOST_RECORDS: u8 = 16;
 
 const MOST_FIELDS: u8 = 4;
 
-// An address, which is above the one before. Before the first stands 0.
-fn address(s: &[u8], c: Cursor, heap: &mut [u32], at: usize, low: u32) -> Cursor
+// An address that was read, if it is above the one before. Before the first stands 0.
+fn address(c: Cursor, v: u32, heap: &mut [u32], at: usize, low: u32) -> Cursor
     requires { ⌜ at < length (now heap) ⌝ }
-    ensures { λ r. ⌜ Fills (addressLayout low) at (now (s .entry)) c (now (heap .entry)) (now (heap .exit)) r ⌝ }
+    ensures { λ r. ⌜ AddressAfter low at c v (now (heap .entry)) (now (heap .exit)) r ⌝ }
 {
-    let w = word(s, c, ENDS);
-    let v = w.value;
-    let next = w.cursor;
     if low < v {
         heap[at] = v;
-        return next;
+        return c;
     }
-    stop(next, ADDRESS)
+    stop(c, ADDRESS)
 }
 
 // A count of at most `most`.
@@ -54,15 +56,37 @@ fn size(s: &[u8], c: Cursor, heap: &mut [u32], at: usize, most: u8) -> Cursor
     next
 }
 
-// A record: its address, which is above `low`, and 0 to 4 fields.
+// A record whose address was read, which is to be above `low`, and its 0 to 4 fields.
+fn after_address(s: &[u8], c: Cursor, v: u32, heap: &mut [u32], at: usize, low: u32) -> Cursor
+    requires { ⌜ at + 6 ≤ length (now heap) ⌝ }
+    ensures { λ r. ⌜ AfterWord (recordLayout low) at (now (s .entry)) c v (now (heap .entry)) (now (heap .exit)) r ⌝ }
+{
+    let c = address(c, v, heap, at, low);
+    let c = size(s, c, heap, at + SIZE, MOST_FIELDS);
+    let k = heap[at + SIZE];
+    values(s, c, heap, at + FIELDS, k, ENDS)
+}
+
+// A record: its address, and what follows it.
+fn record<'a>(r: Reader<'a>, heap: &mut [u32], at: usize, low: u32) -> Reader<'a>
+    requires { ⌜ at + 6 ≤ length (now heap) ⌝ }
+    ensures { λ q. ⌜ (q .bytes ≡ r .entry .bytes) × Fills (recordLayout low) at (now (r .entry .bytes)) (r .entry .at) (now (heap .entry)) (now (heap .exit)) (q .at) ⌝ }
+{
+    let w = r.word(ENDS);
+    let next = after_address(w.bytes, w.at, w.value, heap, at, low);
+    Reader {
+        bytes: w.bytes,
+        at: next,
+    }
+}
+
+// The same for a caller that has slice and cursor: the reader is carried from the address to the last field.
 fn heap_record(s: &[u8], c: Cursor, heap: &mut [u32], at: usize, low: u32) -> Cursor
     requires { ⌜ at + 6 ≤ length (now heap) ⌝ }
     ensures { λ r. ⌜ Fills (recordLayout low) at (now (s .entry)) c (now (heap .entry)) (now (heap .exit)) r ⌝ }
 {
-    let c = address(s, c, heap, at, low);
-    let c = size(s, c, heap, at + 1, MOST_FIELDS);
-    let k = heap[at + 1];
-    values(s, c, heap, at + 2, k, ENDS)
+    let r = record(Reader { bytes: s, at: c }, heap, at, low);
+    r.at
 }
 
 // `count` records, each above the one before.
@@ -75,20 +99,44 @@ fn records(s: &[u8], c: Cursor, heap: &mut [u32], count: u32) -> Cursor
     let mut low: u32 = 0;
     let mut k: usize = 0;
     while k < most {
-        next = heap_record(s, next, heap, 1 + 6 * k, low);
-        low = heap[1 + 6 * k];
+        next = heap_record(s, next, heap, FIRST_RECORD + RECORD_SIZE * k, low);
+        low = heap[FIRST_RECORD + RECORD_SIZE * k];
         k += 1;
     }
     next
 }
 
-// The snapshot, into a block of 97 numbers.
+// The count of the records, and the records.
+fn counted_records(s: &[u8], c: Cursor, heap: &mut [u32]) -> Cursor
+    requires { ⌜ length (now heap) ≡ 97 ⌝ }
+    ensures { λ r. ⌜ HeapFills (now (s .entry)) c (now (heap .entry)) (now (heap .exit)) r ⌝ }
+{
+    let c = size(s, c, heap, RECORDS, MOST_RECORDS);
+    let k = heap[RECORDS];
+    records(s, c, heap, k)
+}
+
+// The snapshot's section.
+fn section<'a>(r: Reader<'a>, heap: &mut [u32]) -> Reader<'a>
+    requires { ⌜ length (now heap) ≡ 97 ⌝ }
+    ensures { λ q. ⌜ (q .bytes ≡ r .entry .bytes) × HeapFills (now (r .entry .bytes)) (r .entry .at) (now (heap .entry)) (now (heap .exit)) (q .at) ⌝ }
+{
+    let next = counted_records(r.bytes, r.at, heap);
+    Reader {
+        bytes: r.bytes,
+        at: next,
+    }
+}
+
+// The snapshot, into a block of 97 numbers: one reader goes through its section, and then nothing may be left.
 pub(crate) fn read_heap(snapshot: &[u8], heap: &mut [u32]) -> Ladder
     requires { ⌜ length (now heap) ≡ 97 ⌝ }
     ensures { λ r. ⌜ HeapRead (now (snapshot .entry)) (now (heap .entry)) (now (heap .exit)) r ⌝ }
 {
-    let c = size(snapshot, Cursor::At(0), heap, 0, MOST_RECORDS);
-    let k = heap[0];
-    let c = records(snapshot, c, heap, k);
-    finish(snapshot, c, MORE)
+    let start = Reader {
+        bytes: snapshot,
+        at: Cursor::At(0),
+    };
+    let r = section(start, heap);
+    finish(r.bytes, r.at, MORE)
 }

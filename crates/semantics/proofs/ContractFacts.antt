@@ -6,10 +6,12 @@ use native.Mathlib.Omega.{arith}
 use lib.ListN.{length, take}
 use lib.Seq.{take-append-seam}
 use Rattle.semantics.specs.Lists.{zeros}
-use Rattle.semantics.specs.Reader.{Result, refused, accepted}
-use Rattle.semantics.specs.Formats.{Input}
-use Rattle.semantics.specs.Contract.{MoreFactsThan, CompletedInput, padded, refusalReply, Answers, Decided, Checked, deskNumber, DeskDecided, DeskChecked}
+use Rattle.semantics.specs.Reader.{Result}
+use Rattle.semantics.specs.Formats.{Input, ladder}
+use Rattle.semantics.specs.Served.{Served}
+use Rattle.semantics.specs.Contract.{MoreFactsThan, CompletedInput, padded, Answers, Decided, Checks, Checked, deskNumber, DeskDecided, DeskChecks, DeskChecked}
 use Rattle.semantics.proofs.Reached.{completed-unique, more-facts}
+use Rattle.semantics.proofs.ServedFacts.{OneOutcome, computed, served-both}
 use Rattle.semantics.specs.declared.Reply.{Reply}
 use Rattle.semantics.specs.declared.CheckReply.{CheckReply}
 
@@ -51,69 +53,51 @@ module _ (i : Input) (n : ℕ) where
         choice = λ z. absurd (omega (arith, ap (λ (r : Reply). r .verdict) a));
       }
 
--- one reading has one outcome
-pub same-input : {r : Result Input} {i j : Input} → r ≡ accepted i → r ≡ accepted j → i ≡ j
-same-input e f = cc
+-- the check's answer is decided
+checks-same : {i : Input} {words : List ℕ} {r s : CheckReply} → Checks i words r → Checks i words s → r ≡ s
+checks-same (Checks.takes t a) (Checks.takes t′ a′) = a ∙ sym a′
+checks-same (Checks.takes t a) (Checks.takes-not t′ a′) = absurd (t′ t)
+checks-same (Checks.takes-not t a) (Checks.takes t′ a′) = absurd (t t′)
+checks-same (Checks.takes-not t a) (Checks.takes-not t′ a′) = a ∙ sym a′
 
-pub same-number : {r : Result Input} {m n : ℕ} → r ≡ refused m → r ≡ refused n → m ≡ n
-same-number e f = cc
-
-pub clash : {r : Result Input} {i : Input} {n : ℕ} → r ≡ accepted i → r ≡ refused n → ⊥
-clash e f = let z : _≡_ {A = ℕ} 0 1 = cc in omega arith
-
-module _ (book snapshot question table space : List ℕ) where
-  -- the contract decides all but the choice
-  pub decided-same : {r s : Reply} {t u x y : List ℕ} → Decided book snapshot question table space r t x → Decided book snapshot question table space s u y → Same r s t u x y
-  decided-same (Decided.unread n e a b c) (Decided.unread m e′ a′ b′ c′) =
-      same-all (a ∙ ap refusalReply (same-number e e′) ∙ sym a′) (b ∙ sym b′) (c ∙ sym c′)
-  decided-same (Decided.unread n e a b c) (Decided.unlent i e′ l a′ b′ c′) = absurd (clash e′ e)
-  decided-same (Decided.unread n e a b c) (Decided.answered i e′ l w) = absurd (clash e′ e)
-  decided-same (Decided.unlent i e l a b c) (Decided.unread n e′ a′ b′ c′) = absurd (clash e e′)
-  decided-same (Decided.answered i e l w) (Decided.unread n e′ a′ b′ c′) = absurd (clash e e′)
-  decided-same (Decided.unlent i e l a b c) (Decided.unlent j e′ l′ a′ b′ c′) = same-all (a ∙ sym a′) (b ∙ sym b′) (c ∙ sym c′)
-  decided-same (Decided.unlent i e l a b c) (Decided.answered j e′ l′ w) = absurd (l l′)
-  decided-same (Decided.answered i e l w) (Decided.unlent j e′ l′ a′ b′ c′) = absurd (l′ l)
-  decided-same (Decided.answered i e l w) (Decided.answered j e′ l′ w′) =
-      answers-same i (length table) w (rw (sym (same-input e e′)) at w′)
-
-module _ (book snapshot question words : List ℕ) where
-  -- the reply of the check is decided
-  pub checked-same : {r s : CheckReply} → Checked book snapshot question words r → Checked book snapshot question words s → r ≡ s
-  checked-same (Checked.unread n e a) (Checked.unread m e′ a′) = a ∙ ap (λ (k : ℕ). record { refusal = k; taken = 0 }) (same-number e e′) ∙ sym a′
-  checked-same (Checked.unread n e a) (Checked.takes i e′ t a′) = absurd (clash e′ e)
-  checked-same (Checked.unread n e a) (Checked.takes-not i e′ t a′) = absurd (clash e′ e)
-  checked-same (Checked.takes i e t a) (Checked.unread n e′ a′) = absurd (clash e e′)
-  checked-same (Checked.takes-not i e t a) (Checked.unread n e′ a′) = absurd (clash e e′)
-  checked-same (Checked.takes i e t a) (Checked.takes j e′ t′ a′) = a ∙ sym a′
-  checked-same (Checked.takes-not i e t a) (Checked.takes-not j e′ t′ a′) = a ∙ sym a′
-  checked-same (Checked.takes i e t a) (Checked.takes-not j e′ t′ a′) = absurd (t′ (rw (same-input e e′) at t))
-  checked-same (Checked.takes-not i e t a) (Checked.takes j e′ t′ a′) = absurd (t (rw (sym (same-input e e′)) at t′))
+desk-checks-same : {i : Input} {bytes : List ℕ} {m n : ℕ} → DeskChecks i bytes m → DeskChecks i bytes n → m ≡ n
+desk-checks-same (DeskChecks.takes t a) (DeskChecks.takes t′ a′) = a ∙ sym a′
+desk-checks-same (DeskChecks.takes t a) (DeskChecks.takes-not t′ a′) = absurd (t′ t)
+desk-checks-same (DeskChecks.takes-not t a) (DeskChecks.takes t′ a′) = absurd (t t′)
+desk-checks-same (DeskChecks.takes-not t a) (DeskChecks.takes-not t′ a′) = a ∙ sym a′
 
 module _ (book snapshot question : List ℕ) where
+  pub one-ladder : OneOutcome (λ (r : Result Input). ladder book snapshot question ≡ r)
+  one-ladder = computed (ladder book snapshot question)
+
+  -- the contract decides all but the choice
+  pub decided-same : (table space : List ℕ) {r s : Reply} {t u x y : List ℕ} → Decided book snapshot question table space r t x → Decided book snapshot question table space s u y
+      → Same r s t u x y
+  decided-same table space d e =
+      served-both one-ladder d e
+      (λ n k l. same-all (k .is-reply ∙ sym (l .is-reply)) (k .same-table ∙ sym (l .same-table)) (k .same-space ∙ sym (l .same-space)))
+      (λ i k l. answers-same i (length table) k l)
+
+  -- the reply of the check is decided
+  pub checked-same : (words : List ℕ) {r s : CheckReply} → Checked book snapshot question words r → Checked book snapshot question words s → r ≡ s
+  checked-same words d e = served-both one-ladder d e (λ n a b. a ∙ sym b) (λ i k l. checks-same k l)
+
   -- the desk's numbers are decided
   pub desk-decided-same : {m n : ℕ} → DeskDecided book snapshot question m → DeskDecided book snapshot question n → m ≡ n
   desk-decided-same a b =
-      let s = decided-same book snapshot question (zeros 1024) (zeros 3072) (a .decided) (b .decided) in
+      let s = decided-same (zeros 1024) (zeros 3072) (a .decided) (b .decided) in
       a .is-number ∙ ap₂ deskNumber (s .refusals) (s .verdicts) ∙ sym (b .is-number)
 
   pub desk-checked-same : (bytes : List ℕ) {m n : ℕ} → DeskChecked book snapshot question bytes m → DeskChecked book snapshot question bytes n → m ≡ n
-  desk-checked-same bytes (DeskChecked.unread n e a) (DeskChecked.unread m e′ a′) = a ∙ ap (λ (k : ℕ). deskNumber k 0) (same-number e e′) ∙ sym a′
-  desk-checked-same bytes (DeskChecked.unread n e a) (DeskChecked.takes i e′ t a′) = absurd (clash e′ e)
-  desk-checked-same bytes (DeskChecked.unread n e a) (DeskChecked.takes-not i e′ t a′) = absurd (clash e′ e)
-  desk-checked-same bytes (DeskChecked.takes i e t a) (DeskChecked.unread n e′ a′) = absurd (clash e e′)
-  desk-checked-same bytes (DeskChecked.takes-not i e t a) (DeskChecked.unread n e′ a′) = absurd (clash e e′)
-  desk-checked-same bytes (DeskChecked.takes i e t a) (DeskChecked.takes j e′ t′ a′) = a ∙ sym a′
-  desk-checked-same bytes (DeskChecked.takes-not i e t a) (DeskChecked.takes-not j e′ t′ a′) = a ∙ sym a′
-  desk-checked-same bytes (DeskChecked.takes i e t a) (DeskChecked.takes-not j e′ t′ a′) = absurd (t′ (rw (same-input e e′) at t))
-  desk-checked-same bytes (DeskChecked.takes-not i e t a) (DeskChecked.takes j e′ t′ a′) = absurd (t (rw (sym (same-input e e′)) at t′))
+  desk-checked-same bytes d e = served-both one-ladder d e (λ n a b. a ∙ sym b) (λ i k l. desk-checks-same k l)
 
 module _ (book snapshot question table space : List ℕ) where
   -- What the engine writes on fits is taken by the check: the words of the first `lines` lines of the unfolding space.
   pub decided-checks : {r : Reply} {t x : List ℕ} → Decided book snapshot question table space r t x → r .verdict ≡ 1
       → Checked book snapshot question (take (3 * r .lines) x) (record { refusal = 0; taken = 1 })
-  decided-checks (Decided.unread n e a b c) z = absurd (omega (arith, ap (λ (r : Reply). r .verdict) a))
-  decided-checks (Decided.unlent i e l a b c) z = absurd (omega (arith, ap (λ (r : Reply). r .verdict) a))
-  decided-checks {r} {t} {x} (Decided.answered i e l w) z = by w
+  decided-checks (Served.unread n e k) z = absurd (omega (arith, ap (λ (r : Reply). r .verdict) (k .is-reply)))
+  decided-checks (Served.unlent i e l k) z = absurd (omega (arith, ap (λ (r : Reply). r .verdict) (k .is-reply)))
+  decided-checks {r} {t} {x} (Served.answered i e l w) z = by w
     where
       by : Answers i (length table) r t x → Checked book snapshot question (take (3 * r .lines) x) (record { refusal = 0; taken = 1 })
       by (Answers.over m a b c) = absurd (omega (arith, ap (λ (r : Reply). r .verdict) a))
@@ -121,4 +105,4 @@ module _ (book snapshot question table space : List ℕ) where
       by (Answers.fits rounds facts words f v u a c) =
           let n : 3 * r .lines ≡ length words = ap (λ (r : Reply). 3 * r .lines) a ∙ sym (u .taken .whole) in
           let q : take (3 * r .lines) x ≡ words = ap₂ take n c ∙ take-append-seam words (zeros (3 * length table - length words)) in
-          Checked.takes i e (rw q (u .taken)) refl
+          Served.answered i e tt (Checks.takes (rw q (u .taken)) refl)

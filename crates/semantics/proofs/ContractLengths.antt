@@ -8,6 +8,7 @@ use lib.ListN.{length, length-append, length-replicate}
 use Rattle.semantics.specs.Lists.{_among_, Distinct, zeros}
 use Rattle.semantics.specs.Formats.{Input}
 use Rattle.semantics.specs.Certificate.{factAt}
+use Rattle.semantics.specs.Served.{Served}
 use Rattle.semantics.specs.Contract.{domainOf, TrimmedInput, CompletedInput, padded, Answers, Decided}
 use Rattle.semantics.proofs.FixedPoint.{line-holds, holding-counted}
 use Rattle.semantics.specs.declared.Reply.{Reply}
@@ -51,9 +52,9 @@ pub record Keeps (table space table′ space′ : List ℕ) : Type 0 where
   pub spaces : length space′ ≡ length space
 
 pub decided-lengths : (book snapshot question table space : List ℕ) {r : Reply} {table′ space′ : List ℕ} → Decided book snapshot question table space r table′ space′ → Keeps table space table′ space′
-decided-lengths b s q table space (Decided.unread n e a t p) = record { tables = ap length t; spaces = ap length p }
-decided-lengths b s q table space (Decided.unlent i e l a t p) = record { tables = ap length t; spaces = ap length p }
-decided-lengths b s q table space {r} {table′} {space′} (Decided.answered i e l w) = by w
+decided-lengths b s q table space (Served.unread n e k) = record { tables = ap length (k .same-table); spaces = ap length (k .same-space) }
+decided-lengths b s q table space (Served.unlent i e l k) = record { tables = ap length (k .same-table); spaces = ap length (k .same-space) }
+decided-lengths b s q table space {r} {table′} {space′} (Served.answered i e l w) = by w
   where
     by : Answers i (length table) r table′ space′ → Keeps table space table′ space′
     by (Answers.over m a t p) =

@@ -6,7 +6,9 @@ use lib.ListN.{length, getD, take, drop}
 use Rattle.semantics.specs.Lists.{_among_, digitsOf, zeros}
 use Rattle.semantics.specs.RuleSet.{RuleSet}
 use Rattle.semantics.specs.Heap.{Heap, wholeOf}
-use Rattle.semantics.specs.Reader.{accepted, refused}
+use Rattle.semantics.specs.Reader.{Result}
+use Rattle.semantics.specs.Refusals.{tooManyFacts}
+use Rattle.semantics.specs.Served.{Served}
 use Rattle.semantics.specs.Formats.{Input, ladder}
 use Rattle.semantics.specs.Tree.{Fits}
 use Rattle.semantics.specs.Domain.{domain}
@@ -77,10 +79,16 @@ FilledInput i = Filled (i .ruleSet) (i .heap) (domainOf i)
 abbrev pub refusalReply : ℕ → Reply
 refusalReply n = record { refusal = n; verdict = 0; facts = 0; rounds = 0; lines = 0 }
 
+-- What a refusal before the answer leaves: the reply of its number, and all lent memory as it was found.
+pub record Refuses (reply : Reply) (table space table′ space′ : List ℕ) (n : ℕ) : Type 0 where
+  pub is-reply : reply ≡ refusalReply n
+  pub same-table : table′ ≡ table
+  pub same-space : space′ ≡ space
+
 -- The engine's answer to what was read, with n lines of table: the reply, the table and the unfolding space. On fits the certificate is
 -- the program's choice among those of the engine's kind; nothing else is.
 pub data Answers (i : Input) (n : ℕ) (reply : Reply) (table space : List ℕ) : Type 0 where
-  over : MoreFactsThan i n → reply ≡ refusalReply 11 → table ≡ zeros n → space ≡ zeros (3 * n) → Answers i n reply table space
+  over : MoreFactsThan i n → reply ≡ refusalReply tooManyFacts → table ≡ zeros n → space ≡ zeros (3 * n) → Answers i n reply table space
   fits : (rounds : ℕ) (facts words : List ℕ) → FilledInput i n rounds facts table → FitsInput i → (u : TrimmedInput i words)
       → reply ≡ record { refusal = 0; verdict = 1; facts = length facts; rounds = rounds; lines = u .taken .count }
       → space ≡ padded (3 * n) words → Answers i n reply table space
@@ -88,27 +96,24 @@ pub data Answers (i : Input) (n : ℕ) (reply : Reply) (table space : List ℕ) 
       → reply ≡ record { refusal = 0; verdict = 0; facts = length facts; rounds = rounds; lines = 0 }
       → space ≡ zeros (3 * n) → Answers i n reply table space
 
--- The contract of `decide`: from bytes and lent memory to the reply and that memory afterwards. Where the bytes are refused (unread: 1 to
--- 9) or the memory is (unlent: 10), nothing lent is changed.
-pub data Decided (book snapshot question table space : List ℕ) (reply : Reply) (table′ space′ : List ℕ) : Type 0 where
-  unread : (n : ℕ) → ladder book snapshot question ≡ refused n → reply ≡ refusalReply n → table′ ≡ table → space′ ≡ space
-      → Decided book snapshot question table space reply table′ space′
-  unlent : (i : Input) → ladder book snapshot question ≡ accepted i → ¬ Lent (length table) (length space) → reply ≡ refusalReply 10
-      → table′ ≡ table → space′ ≡ space → Decided book snapshot question table space reply table′ space′
-  answered : (i : Input) → ladder book snapshot question ≡ accepted i → Lent (length table) (length space)
-      → Answers i (length table) reply table′ space′ → Decided book snapshot question table space reply table′ space′
+-- The contract of `decide`: from bytes and lent memory to the reply and that memory afterwards.
+abbrev pub Decided : (book snapshot question table space : List ℕ) (reply : Reply) (table′ space′ : List ℕ) → Type 0
+Decided book snapshot question table space reply table′ space′ =
+    Served (λ (r : Result Input). ladder book snapshot question ≡ r) (Lent (length table) (length space)) (Refuses reply table space table′ space′)
+    (λ (i : Input). Answers i (length table) reply table′ space′)
 
 -- ---- the check
 
--- The contract of `check`: a refusal of 1 to 9 and 0, or 0 and whether the words meet the conditions for lines. It is lent nothing to
--- change.
-pub data Checked (book snapshot question words : List ℕ) (reply : CheckReply) : Type 0 where
-  unread : (n : ℕ) → ladder book snapshot question ≡ refused n → reply ≡ record { refusal = n; taken = 0 }
-      → Checked book snapshot question words reply
-  takes : (i : Input) → ladder book snapshot question ≡ accepted i → CertificateInput i words → reply ≡ record { refusal = 0; taken = 1 }
-      → Checked book snapshot question words reply
-  takes-not : (i : Input) → ladder book snapshot question ≡ accepted i → ¬ CertificateInput i words → reply ≡ record { refusal = 0; taken = 0 }
-      → Checked book snapshot question words reply
+-- The check's answer to what was read: whether the words meet the conditions for lines.
+pub data Checks (i : Input) (words : List ℕ) (reply : CheckReply) : Type 0 where
+  takes : CertificateInput i words → reply ≡ record { refusal = 0; taken = 1 } → Checks i words reply
+  takes-not : ¬ CertificateInput i words → reply ≡ record { refusal = 0; taken = 0 } → Checks i words reply
+
+-- The contract of `check`, which is lent nothing to change.
+abbrev pub Checked : (book snapshot question words : List ℕ) (reply : CheckReply) → Type 0
+Checked book snapshot question words reply =
+    Served (λ (r : Result Input). ladder book snapshot question ≡ r) (Unit {0}) (λ (n : ℕ). reply ≡ record { refusal = n; taken = 0 })
+    (λ (i : Input). Checks i words reply)
 
 -- ---- the desk's two entries
 
@@ -137,27 +142,29 @@ pub record DeskTakes (i : Input) (bytes : List ℕ) : Type 0 where
   pub most : length bytes ≤ 24576
   pub taken : CertificateInput i words
 
--- The check as an entry. Refusals 1 to 9 come first; bytes that are too many or no whole words are not taken, which is no refusal.
-pub data DeskChecked (book snapshot question bytes : List ℕ) (number : ℕ) : Type 0 where
-  unread : (n : ℕ) → ladder book snapshot question ≡ refused n → number ≡ deskNumber n 0 → DeskChecked book snapshot question bytes number
-  takes : (i : Input) → ladder book snapshot question ≡ accepted i → DeskTakes i bytes → number ≡ deskNumber 0 1
-      → DeskChecked book snapshot question bytes number
-  takes-not : (i : Input) → ladder book snapshot question ≡ accepted i → ¬ DeskTakes i bytes → number ≡ deskNumber 0 0
-      → DeskChecked book snapshot question bytes number
+-- Its answer: bytes that are too many or no whole words are not taken, which is no refusal.
+pub data DeskChecks (i : Input) (bytes : List ℕ) (number : ℕ) : Type 0 where
+  takes : DeskTakes i bytes → number ≡ deskNumber 0 1 → DeskChecks i bytes number
+  takes-not : ¬ DeskTakes i bytes → number ≡ deskNumber 0 0 → DeskChecks i bytes number
+
+-- The check as an entry.
+abbrev pub DeskChecked : (book snapshot question bytes : List ℕ) (number : ℕ) → Type 0
+DeskChecked book snapshot question bytes number =
+    Served (λ (r : Result Input). ladder book snapshot question ≡ r) (Unit {0}) (λ (n : ℕ). number ≡ deskNumber n 0) (λ (i : Input). DeskChecks i bytes number)
 
 -- ---- the bench program's input
 
--- How an input is cut in three: each part has its length in front, in two bytes, the second of which counts 256s. Where the input ends
--- too soon, a length byte that is not there is 0 and a part has the bytes that are left; what comes after the third part is not looked
+-- How an input is cut in three sections: each has its length in front, in two bytes, the second of which counts 256s. Where the input
+-- ends too soon, a length byte that is not there is 0 and a section has the bytes that are left; what comes after the third is not looked
 -- at.
-abbrev pub partLength : List ℕ → ℕ
-partLength bytes = getD bytes 0 0 + 256 * getD bytes 1 0
+abbrev pub sectionLength : List ℕ → ℕ
+sectionLength bytes = getD bytes 0 0 + 256 * getD bytes 1 0
 
-abbrev pub firstPart : List ℕ → List ℕ
-firstPart bytes = take (partLength bytes) (drop 2 bytes)
+abbrev pub firstSection : List ℕ → List ℕ
+firstSection bytes = take (sectionLength bytes) (drop 2 bytes)
 
-abbrev pub otherParts : List ℕ → List ℕ
-otherParts bytes = drop (partLength bytes) (drop 2 bytes)
+abbrev pub otherSections : List ℕ → List ℕ
+otherSections bytes = drop (sectionLength bytes) (drop 2 bytes)
 
 -- The house book H.
 abbrev pub house : List ℕ
@@ -168,16 +175,16 @@ house =
     ∷ 1 ∷ 1 ∷ 0 ∷ 1 ∷ 0 ∷ 1 ∷ 1 ∷ 1 ∷ 0 ∷ 1 ∷ 0
     ∷ 2 ∷ 0 ∷ 0 ∷ 0 ∷ 2 ∷ 0 ∷ 0 ∷ 255 ∷ 0 ∷ 1 ∷ 255 ∷ []
 
--- Where the part of the book has no bytes, the house book is meant.
+-- Where the section of the book has no bytes, the house book is meant.
 abbrev pub bookOr : List ℕ → List ℕ
 bookOr [] = house
 bookOr (b ∷ bytes) = b ∷ bytes
 
-abbrev pub bookPart : List ℕ → List ℕ
-bookPart input = bookOr (firstPart input)
+abbrev pub bookSection : List ℕ → List ℕ
+bookSection input = bookOr (firstSection input)
 
-abbrev pub snapshotPart : List ℕ → List ℕ
-snapshotPart input = firstPart (otherParts input)
+abbrev pub snapshotSection : List ℕ → List ℕ
+snapshotSection input = firstSection (otherSections input)
 
-abbrev pub questionPart : List ℕ → List ℕ
-questionPart input = firstPart (otherParts (otherParts input))
+abbrev pub questionSection : List ℕ → List ℕ
+questionSection input = firstSection (otherSections (otherSections input))

@@ -8,6 +8,7 @@ use lib.ListN.{length, getD}
 use lib.Dec.{eqb, leb, ltb}
 use Rattle.semantics.specs.RuleSet.{Term, var, fixed, Kind, equal, unequal, Pure, PointsTo, Call, Rule, RuleSet, arity, WellFormed}
 use Rattle.semantics.specs.Heap.{Heap, WellFormedHeap}
+use Rattle.semantics.specs.Refusals.{bookEnds, bookCount, bookName, bookLonger, snapshotEnds, snapshotCount, snapshotAddress, snapshotLonger, questionMismatch}
 use Rattle.semantics.specs.Reader.{fault, Reader, _>>=_, give, ensure, byte, times, counted, word, Result, accepted, andThen, all}
 
 -- ---- values
@@ -21,31 +22,31 @@ value short = do
   v ← word short
   give (asRead v)
 
--- ---- the rule set: 1 where it ends too soon, 2 for a count beyond its range, 3 for a byte that names nothing, 4 for bytes after it
+-- ---- the rule set
 
 -- A byte below n: one of n predicates, or one of n variables.
 abbrev pub named : ℕ → Reader ℕ
 named n = do
-  b ← byte 1
-  ensure (ltb b n) 3 b
+  b ← byte bookEnds
+  ensure (ltb b n) bookName b
 
 -- What the byte b names as a term of a rule with n variables: nil (255), or a variable.
 abbrev pub termOf : ℕ → ℕ → Reader Term
-termOf n b = elim (eqb b 255) [ true ↦ give (fixed 0) | false ↦ ensure (ltb b n) 3 (var b) ]
+termOf n b = elim (eqb b 255) [ true ↦ give (fixed 0) | false ↦ ensure (ltb b n) bookName (var b) ]
 
 abbrev pub term : ℕ → Reader Term
 term n = do
-  b ← byte 1
+  b ← byte bookEnds
   termOf n b
 
 abbrev pub kindOf : ℕ → Reader Kind
 kindOf zero = give equal
 kindOf (suc zero) = give unequal
-kindOf (suc (suc b)) = λ bytes. fault 3
+kindOf (suc (suc b)) = λ bytes. fault bookName
 
 abbrev pub kind : Reader Kind
 kind = do
-  b ← byte 1
+  b ← byte bookEnds
   kindOf b
 
 abbrev pub pure : ℕ → Reader Pure
@@ -55,11 +56,11 @@ pure n = do
   r ← term n
   give (record { kind = k; left = l; right = r })
 
--- Only a variable may stand for the address: 255, which is nil, is refusal 3 there.
+-- Only a variable may stand for the address: 255, which is nil, names nothing there.
 abbrev pub atom : ℕ → Reader PointsTo
 atom n = do
   a ← named n
-  ts ← counted 1 2 4 (term n)
+  ts ← counted bookEnds bookCount 4 (term n)
   give (record { address = a; fields = ts })
 
 abbrev pub call : List ℕ → ℕ → Reader Call
@@ -70,43 +71,43 @@ call arities n = do
 
 abbrev pub body : List ℕ → ℕ → ℕ → ℕ → Reader Rule
 body arities h b n = do
-  ps ← counted 1 2 8 (pure n)
-  cs ← counted 1 2 4 (atom n)
-  ds ← counted 1 2 3 (call arities n)
+  ps ← counted bookEnds bookCount 8 (pure n)
+  cs ← counted bookEnds bookCount 4 (atom n)
+  ds ← counted bookEnds bookCount 3 (call arities n)
   give (record { head = h; bound = b; pures = ps; points-to = cs; calls = ds })
 
 -- Head and bound variables are at most 8 together.
 abbrev pub rule : List ℕ → Reader Rule
 rule arities = do
   h ← named (length arities)
-  b ← byte 1
-  n ← ensure (leb (getD arities h 0 + b) 8) 2 (getD arities h 0 + b)
+  b ← byte bookEnds
+  n ← ensure (leb (getD arities h 0 + b) 8) bookCount (getD arities h 0 + b)
   body arities h b n
 
 -- A predicate's number of arguments.
 abbrev pub arguments : Reader ℕ
 arguments = do
-  b ← byte 1
-  ensure (leb b 4) 2 b
+  b ← byte bookEnds
+  ensure (leb b 4) bookCount b
 
 -- There are 1 to 8 predicates.
 abbrev pub predicates : Reader (List ℕ)
 predicates = do
-  b ← byte 1
-  l ← ensure (leb 1 b) 2 b
-  n ← ensure (leb l 8) 2 l
+  b ← byte bookEnds
+  l ← ensure (leb 1 b) bookCount b
+  n ← ensure (leb l 8) bookCount l
   times n arguments
 
 abbrev pub ruleSet : Reader RuleSet
 ruleSet = do
   arities ← predicates
-  rules ← counted 1 2 16 (rule arities)
+  rules ← counted bookEnds bookCount 16 (rule arities)
   give (record { arities = arities; rules = rules })
 
 unfoldable pub readRuleSet : List ℕ → Result RuleSet
-readRuleSet bytes = all 4 (ruleSet bytes)
+readRuleSet bytes = all bookLonger (ruleSet bytes)
 
--- ---- the snapshot: 5 where it ends too soon, 6 for a count above its range, 7 for an address, 8 for bytes after it
+-- ---- the snapshot
 
 -- An address is above the one before; before the first stands 0, so none is nil.
 abbrev pub isAddress : ℕ → ℕ → Bool
@@ -114,27 +115,27 @@ isAddress low a = ltb low a
 
 abbrev pub address : ℕ → Reader ℕ
 address low = do
-  a ← word 5
-  ensure (isAddress low a) 7 a
+  a ← word snapshotEnds
+  ensure (isAddress low a) snapshotAddress a
 
 unfoldable pub records : ℕ → ℕ → Reader Heap
 records zero low = give []
 records (suc n) low = do
   a ← address low
-  fs ← counted 5 6 4 (value 5)
+  fs ← counted snapshotEnds snapshotCount 4 (value snapshotEnds)
   more ← records n a
   give (record { address = a; fields = fs } ∷ more)
 
 abbrev pub snapshot : Reader Heap
 snapshot = do
-  b ← byte 5
-  n ← ensure (leb b 16) 6 b
+  b ← byte snapshotEnds
+  n ← ensure (leb b 16) snapshotCount b
   records n 0
 
 unfoldable pub readSnapshot : List ℕ → Result Heap
-readSnapshot bytes = all 8 (snapshot bytes)
+readSnapshot bytes = all snapshotLonger (snapshot bytes)
 
--- ---- the query (paper 01: the question): 9 for every fault
+-- ---- the query (paper 01: the question), which has one number for every fault
 
 pub record Query : Type 0 where
   pub predicate : ℕ
@@ -142,15 +143,15 @@ pub record Query : Type 0 where
 
 abbrev pub query : List ℕ → Reader Query
 query arities = do
-  b ← byte 9
-  p ← ensure (ltb b (length arities)) 9 b
-  c ← byte 9
-  n ← ensure (eqb c (getD arities p 0)) 9 c
-  vs ← times n (value 9)
+  b ← byte questionMismatch
+  p ← ensure (ltb b (length arities)) questionMismatch b
+  c ← byte questionMismatch
+  n ← ensure (eqb c (getD arities p 0)) questionMismatch c
+  vs ← times n (value questionMismatch)
   give (record { predicate = p; values = vs })
 
 unfoldable pub readQuery : List ℕ → List ℕ → Result Query
-readQuery arities bytes = all 9 (query arities bytes)
+readQuery arities bytes = all questionMismatch (query arities bytes)
 
 -- ---- refusals 1 to 9
 

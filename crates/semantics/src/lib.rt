@@ -1,5 +1,10 @@
 // The types of the public answers. The definitions stand in specs/, and their theorems in proofs/.
 
+// The refusals that no reader gives. specs/Refusals has all numbers.
+pub const MEMORY_SIZE: u64 = 10;
+
+pub const TOO_MANY_FACTS: u64 = 11;
+
 // The engine's reply. Verdict 1 is fits, 0 does not fit; lines is the certificate's number of lines.
 pub struct Reply {
     pub refusal: u64,

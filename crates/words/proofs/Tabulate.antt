@@ -66,3 +66,11 @@ tabulate-add {A} (suc m) n f =
     rw e (ap (λ (l : List A). f 0 ∷ l) (tabulate-add m n (λ i. f (suc i))
     ∙ ap (λ (l : List A). tabulate m (λ (i : ℕ). f (suc i)) ++ l)
     (tabulate-same n (λ i. f (suc (m + i))) (λ i. f (suc m + i)) (λ i l. let z : suc m + i ≡ suc (m + i) = omega arith in rw z refl))))
+
+-- four entries
+pub entries-four : (block : List ℕ) (from : ℕ)
+    → getD block from 0 ∷ getD block (from + 1) 0 ∷ getD block (from + 2) 0 ∷ getD block (from + 3) 0 ∷ [] ≡ entries block from 4
+unfolding tabulate
+entries-four block from =
+    let e : from ≡ from + 0 = omega arith in
+    ap (λ (i : ℕ). getD block i 0 ∷ getD block (from + 1) 0 ∷ getD block (from + 2) 0 ∷ getD block (from + 3) 0 ∷ []) e

@@ -2,7 +2,9 @@
 use mathlib.Core.Path.{sym}
 use lib.Seq.{length-take-le}
 use native.Mathlib.Omega.{arith}
-use Rattle.desk.proofs.Numbers.{loaded-within, loaded-long, checked-small, desk-checked}
+use Prim.Native.Nat.{_≤_}
+use Rattle.engine.proofs.Demands.{check-refusal-most, taken-most}
+use Rattle.desk.proofs.Numbers.{loaded-within, loaded-long, desk-checked}
 use borrow.Author.Needs.{needs}
 use Rattle.desk.proofs.desk_check.Statement.{statement}
 use Rattle.desk.proofs.desk_check.Tie as tie
@@ -14,14 +16,25 @@ slice-aggregate-check : tie.Need-slice-aggregate-check
 slice-aggregate-check c =
     let l = c .before .before .load in sym (length-take-le (l .result) (l .last .1 .0) (loaded-within (l .ensures)))
 
+abbrev start : tie.After-struct-known → tie.Start
+start c = c .before .before .before .before .before .before .before .before .before .before
+
+refusal : (c : tie.After-struct-known) → c .before .check .result .refusal ≤ 9
+refusal c = let a = start c .args in check-refusal-most (a .book .now) (a .snapshot .now) (a .question .now) _ (c .before .check .ensures)
+
+second : (c : tie.After-struct-known) → c .before .check .result .taken ≤ 1
+second c = let a = start c .args in taken-most (a .book .now) (a .snapshot .now) (a .question .now) _ (c .before .check .ensures)
+
 mul-result : tie.Need-mul-result
-mul-result c = omega (arith, checked-small (c .before .check .ensures) .refusal-small)
+mul-result c = omega (arith, refusal c)
 
 add-result : tie.Need-add-result
-add-result c = omega (arith, checked-small (c .before .before .check .ensures) .refusal-small, checked-small (c .before .before .check .ensures) .second-small)
+add-result c = omega (arith, refusal (c .before), second (c .before))
 
 returns : tie.Need-returns
-returns c = desk-checked (c .before .before .before .before .before .load .ensures) (c .before .before .check .ensures)
+returns c =
+    let a = start (c .before) .args in
+    desk-checked (a .book .now) (a .snapshot .now) (a .question .now) (c .before .before .before .before .before .load .ensures) (c .before .before .check .ensures)
 
 pub desk-check-spec : {M : Type 1} → statement M
 desk-check-spec =

@@ -1,22 +1,45 @@
 -- `decide` meets its contract: what the reader refuses is refused, then memory that does not fit together; otherwise the reply is that of
 -- `answer`.
-use Rattle.engine.proofs.Answers.{well-formed, block-long}
-use Rattle.engine.proofs.Answering.{decided, undecided, short-lent}
+use mathlib.Core.Path.{refl}
+use Rattle.engine.proofs.Answers.{well-formed, block-long, unread, unlent, answered}
 use borrow.Author.Needs.{needs}
 use Rattle.engine.proofs.decide.Statement.{statement}
 use Rattle.engine.proofs.decide.Tie as tie
 
+-- where all was read, and where the lent memory was found as asked
+abbrev read-whole : tie.Then1 → tie.After-enum-told
+read-whole c = c .before .before
+
+abbrev lent : tie.After-answer-arg2 → tie.Then1
+lent c = c .before .before .before .before .before
+
 answer-requires : tie.Need-answer-requires
-answer-requires c κs = (well-formed (c .before .before .before .before .before .before .before .before .before .read .ensures) (c .before .before .before .before .before .before .before .enum-told .given .1), block-long (c .before .before .before .before .before .before .before .before .before .read .ensures) (c .before .before .before .before .before .before .before .enum-told .given .1), c .before .before .before .before .before .before .lends .ensures .so (c .before .before .before .before .before .if1 .taken))
+answer-requires c κs =
+    let t = lent c in
+    let a = read-whole t in (
+      well-formed (a .before .before .read .ensures) (a .enum-told .given .1),
+      block-long (a .before .before .read .ensures) (a .enum-told .given .1),
+      t .before .lends .ensures .so (t .if1 .taken),
+    )
 
 returns : tie.Need-returns
-returns c = decided (c .before .before .before .before .before .before .before .before .before .before .before .before .before .before .read .ensures) (c .before .before .before .before .before .before .before .before .before .before .before .before .enum-told .given .1) (c .before .before .before .before .before .before .before .before .before .before .before .lends .ensures .so (c .before .before .before .before .before .before .before .before .before .before .if1 .taken)) (c .before .before .before .before .answer .ensures)
+returns c =
+    let d = c .before .before .before .before in
+    let t = lent (d .before) in
+    let a = read-whole t in
+    answered (a .before .before .read .ensures) (a .enum-told .given .1) (t .before .lends .ensures .so (t .if1 .taken)) (d .answer .ensures)
 
 returns-2 : tie.Need-returns-2
-returns-2 c = undecided (c .before .before .before .before .read .ensures) (c .before .before .n .given .1) (c .refuse .ensures)
+returns-2 c =
+    let n = c .before .before in
+    unread (n .before .before .read .ensures) (n .n .given .1) (record { is-reply = c .refuse .ensures; same-table = refl; same-space = refl })
 
 returns-3 : tie.Need-returns-3
-returns-3 c = short-lent (c .before .before .before .before .before .read .ensures) (c .before .before .before .enum-told .given .1) (c .before .before .lends .ensures .not-so (c .before .if1 .left)) (c .refuse2 .ensures)
+returns-3 c =
+    let l = c .before .before in
+    let a = l .before in
+    unlent (a .before .before .read .ensures) (a .enum-told .given .1) (l .lends .ensures .not-so (c .before .if1 .left))
+    (record { is-reply = c .refuse2 .ensures; same-table = refl; same-space = refl })
 
 pub decide-spec : {M : Type 1} → statement M
 decide-spec =

@@ -9,15 +9,23 @@ read-query-requires : tie.Need-read-query-requires
 read-query-requires c κs = (c .before .before .before .before .before .before .before .before .read-rules .ensures .header, search needs)
 
 returns : tie.Need-returns
-returns c = book-refused _ _ _ _ _ _ _ (rw (c .before .n .given .1) at (c .before .before .before .read-rules .ensures .is))
+returns c =
+    let book = c .before .before .before .read-rules .ensures in
+    book-refused _ _ _ _ _ _ _ (rw (c .before .n .given .1) at (book .is)) (book .long ∙ search needs)
 
 returns-2 : tie.Need-returns-2
-returns-2 c = snapshot-refused _ _ _ _ _ _ _ (rw (c .before .before .before .before .before .enum-told .given .1) at (c .before .before .before .before .before .before .before .read-rules .ensures .is)) (rw (c .before .n2 .given .1) at (c .before .before .before .read-heap .ensures .is))
+returns-2 c =
+    let d = c .before .before .before in
+    let book = d .before .before .before .before .read-rules .ensures in
+    snapshot-refused _ _ _ _ _ _ _ (rw (d .before .before .enum-told .given .1) at (book .is)) (rw (c .before .n2 .given .1) at (d .read-heap .ensures .is))
+    (book .long ∙ search needs)
 
 returns-3 : tie.Need-returns-3
 returns-3 c =
-    all-read _ _ _ _ _ _ _ (rw (c .before .before .before .before .before .before .before .enum-told .given .1) at (c .before .before .before .before .before .before .before .before .before .read-rules .ensures .is)) (rw (c .before .before .before .enum-told2 .given .1) at (c .before .before .before .before .before .read-heap .ensures .is))
-    (c .read-query .ensures .is) (c .before .before .before .before .before .before .before .before .before .read-rules .ensures .long ∙ search needs)
+    let d = c .before .before .before in
+    let book = d .before .before .before .before .before .before .read-rules .ensures in
+    all-read _ _ _ _ _ _ _ (rw (d .before .before .before .before .enum-told .given .1) at (book .is))
+    (rw (d .enum-told2 .given .1) at (d .before .before .read-heap .ensures .is)) (c .read-query .ensures .is) (book .long ∙ search needs)
 
 pub read-spec : {M : Type 1} → statement M
 read-spec =

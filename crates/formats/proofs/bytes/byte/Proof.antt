@@ -7,7 +7,7 @@ use Rattle.formats.proofs.bytes.byte.Tie as tie
 returns : tie.Need-returns
 returns c =
     let a = c .before .before .before .before .before .args in
-    rw (c .before .before .c .given .1, c .read-at .ensures) (next-yields (a .short) (a .s .now) _)
+    rw (c .before .before .c .given .1, c .byte-at .ensures) (next-yields (a .short) (a .s .now) _)
 
 returns-2 : tie.Need-returns-2
 returns-2 c = record { is = rw (c .before .c2 .given .1) }

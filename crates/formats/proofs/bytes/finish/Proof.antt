@@ -7,12 +7,12 @@ use Rattle.formats.proofs.bytes.finish.Tie as tie
 returns : tie.Need-returns
 returns c =
     let a = c .before .before .before .before .before .before .before .args in
-    one-more (a .more) (a .s .now) (c .before .before .before .before .c .given .1) (c .before .before .read-at .ensures) (c .enum-told .given .1)
+    one-more (a .more) (a .s .now) (c .before .before .before .before .c .given .1) (c .before .before .byte-at .ensures) (c .enum-told .given .1)
 
 returns-2 : tie.Need-returns-2
 returns-2 c =
     let a = c .before .before .before .before .before .before .before .args in
-    none-left (a .more) (a .s .now) (c .before .before .before .before .c .given .1) (c .before .before .read-at .ensures) (c .enum-told2 .given .1)
+    none-left (a .more) (a .s .now) (c .before .before .before .before .c .given .1) (c .before .before .byte-at .ensures) (c .enum-told2 .given .1)
 
 returns-3 : tie.Need-returns-3
 returns-3 c = rw (c .before .c2 .given .1)

@@ -1,31 +1,35 @@
 -- The address that was read lies at its place; one that is not above the one before stops the cursor.
+use mathlib.Core.List.{[]}
 use native.Mathlib.Omega.{arith}
 use Rattle.formats.specs.Layout.{Any}
-use Rattle.formats.proofs.Keep.{stored, kept-none}
+use Rattle.formats.proofs.Keep.{stored, kept-set, kept-none}
 use Rattle.formats.proofs.Words.{address-above, address-off}
 use borrow.Author.Needs.{needs}
 use Rattle.formats.proofs.snapshot.address.Statement.{statement}
 use Rattle.formats.proofs.snapshot.address.Tie as tie
 
 mul-heap : tie.Need-mul-heap
-mul-heap c = omega (arith, c .before .before .before .before .good .1 .1 .0)
+mul-heap c = omega (arith, c .before .before .good .1 .1 .0)
 
 slice-write-heap : tie.Need-slice-write-heap
 slice-write-heap c = omega arith
 
 returns : tie.Need-returns
-returns c =
-    let a = c .before .before .before .before .args in
-    let w = c .before .word in
-    stored (λ v. v) Any (a .heap .now) (a .at) (w .result .value) (c .before .before .before .before .pre) (address-above (a .low) (w .ensures) (c .if1 .taken)) tt
+returns c bytes =
+    let a = c .before .before .args in
+    record {
+      reads = λ c₀ y. stored (λ v. v) Any (a .heap .now) (a .at) (a .v) (c .before .before .pre) (address-above (a .low) y (c .if1 .taken)) tt .reads;
+      sized = tt;
+      kept = kept-set (a .heap .now) (a .at) (a .v);
+    }
 
 returns-2 : tie.Need-returns-2
-returns-2 c =
-    let a = c .before .before .before .before .before .args in
-    record { reads = rw (c .stop .ensures) (address-off (a .low) _ (c .before .before .word .ensures) (c .before .if1 .left)); sized = tt; kept = kept-none _ _ _ }
+returns-2 c bytes =
+    let a = c .before .before .before .args in
+    record { reads = λ c₀ y. rw (c .stop .ensures) (address-off (a .low) _ y (c .before .if1 .left)); sized = tt; kept = kept-none _ _ _ }
 
 same-length : tie.Need-same-length
-same-length c = returns c .kept .long
+same-length c = returns c [] .kept .long
 
 pub address-spec : {M : Type 1} → statement M
-address-spec = tie.close (tie.spec (λ c κs. search needs) mul-heap slice-write-heap same-length returns (λ c κs. search needs) returns-2)
+address-spec = tie.close (tie.spec mul-heap slice-write-heap same-length returns (λ c κs. search needs) returns-2)

@@ -1,0 +1,106 @@
+// Heap and query as they are read, in values, by names; and the entries of the heap in positions, to be written. A record is named by its
+// number.
+ghost use mathlib.Core.Path.{_≡_};
+ghost use Prim.Native.Nat.{_+_, _≤_, _<_};
+ghost use lib.ListN.{length, set};
+ghost use Rattle.block.specs.Layout.{recordCount, recordPlace, recordAddress, recordSize, recordField, queryPredicate, queryCount, queryValue, queryValues};
+
+// A count as an index.
+fn wide(x: u32) -> usize
+    ensures { λ r. ⌜ (r ≡ x) × (r < 4294967296) ⌝ }
+{
+    x as usize
+}
+
+// ---- the heap
+
+// How many records there are.
+pub fn record_count(heap: &[u32; 97]) -> usize
+    ensures { λ r. ⌜ (r ≡ recordCount (now (heap .entry))) × (r < 4294967296) ⌝ }
+{
+    wide(heap[0])
+}
+
+pub fn record_address(heap: &[u32; 97], k: usize) -> u32
+    requires { ⌜ k < 16 ⌝ }
+    ensures { λ r. ⌜ r ≡ recordAddress (now (heap .entry)) k ⌝ }
+{
+    heap[1 + 6 * k]
+}
+
+// How many fields record k has.
+pub fn record_size(heap: &[u32; 97], k: usize) -> usize
+    requires { ⌜ k < 16 ⌝ }
+    ensures { λ r. ⌜ (r ≡ recordSize (now (heap .entry)) k) × (r < 4294967296) ⌝ }
+{
+    wide(heap[1 + 6 * k + 1])
+}
+
+pub fn record_field(heap: &[u32; 97], k: usize, j: usize) -> u32
+    requires { ⌜ (k < 16) × (j < 4) ⌝ }
+    ensures { λ r. ⌜ r ≡ recordField (now (heap .entry)) k j ⌝ }
+{
+    heap[1 + 6 * k + 2 + j]
+}
+
+// ---- the query
+
+pub fn query_predicate(query: &[u32; 6]) -> u8
+    requires { ⌜ queryPredicate (now query) < 256 ⌝ }
+    ensures { λ r. ⌜ r ≡ queryPredicate (now (query .entry)) ⌝ }
+{
+    query[0] as u8
+}
+
+// How many values it has.
+pub fn query_count(query: &[u32; 6]) -> usize
+    ensures { λ r. ⌜ (r ≡ queryCount (now (query .entry))) × (r < 4294967296) ⌝ }
+{
+    wide(query[1])
+}
+
+pub fn query_value(query: &[u32; 6], i: usize) -> u32
+    requires { ⌜ i < 4 ⌝ }
+    ensures { λ r. ⌜ r ≡ queryValue (now (query .entry)) i ⌝ }
+{
+    query[2 + i]
+}
+
+// All of them.
+pub fn query_values(query: &[u32; 6]) -> &[u32]
+    requires { ⌜ queryCount (now query) ≤ 4 ⌝ }
+    ensures { λ r. ⌜ now r ≡ queryValues (now (query .entry)) ⌝ }
+{
+    let count = wide(query[1]);
+    let all = &query[..];
+    &all[2..2 + count]
+}
+
+// ---- the heap in positions, entry by entry
+
+pub fn write_count(records: &mut [u8; 97], count: u8)
+    ensures { λ _. ⌜ now (records .exit) ≡ set (now (records .entry)) 0 count ⌝ }
+{
+    records[0] = count;
+}
+
+pub fn write_address(records: &mut [u8; 97], k: usize, address: u8)
+    requires { ⌜ k < 16 ⌝ }
+    ensures { λ _. ⌜ now (records .exit) ≡ set (now (records .entry)) (recordPlace k) address ⌝ }
+{
+    records[1 + 6 * k] = address;
+}
+
+pub fn write_size(records: &mut [u8; 97], k: usize, size: u8)
+    requires { ⌜ k < 16 ⌝ }
+    ensures { λ _. ⌜ now (records .exit) ≡ set (now (records .entry)) (recordPlace k + 1) size ⌝ }
+{
+    records[1 + 6 * k + 1] = size;
+}
+
+pub fn write_field(records: &mut [u8; 97], k: usize, j: usize, field: u8)
+    requires { ⌜ (k < 16) × (j < 4) ⌝ }
+    ensures { λ _. ⌜ now (records .exit) ≡ set (now (records .entry)) (recordPlace k + 2 + j) field ⌝ }
+{
+    records[1 + 6 * k + 2 + j] = field;
+}

@@ -1,0 +1,70 @@
+-- Examples, no part of what must be believed: the starred rows of paper 01, each from its bytes, and what it is for a row to be true.
+use mathlib.Core.Bool.{Bool, true, false}
+use mathlib.Core.List.{List, [], _∷_, _++_}
+use mathlib.Core.Path.{_≡_}
+use Prim.Native.Nat.{ℕ, _-_}
+use lib.ListN.{length, getD}
+use Rattle.semantics.specs.Reader.{accepted}
+use Rattle.semantics.specs.Formats.{Input, ladder}
+use Rattle.semantics.specs.Faults.{bookL, four, asks}
+use Rattle.semantics.specs.Contract.{FitsInput, TrimmedInput, CompletedInput, house}
+
+-- The bytes asked about, and the reply: fits or not, facts, rounds, lines. `last` has the table's last fact, where the paper gives it.
+pub record Row : Type 0 where
+  pub book : List ℕ
+  pub snapshot : List ℕ
+  pub question : List ℕ
+  pub fits : Bool
+  pub facts : ℕ
+  pub rounds : ℕ
+  pub lines : ℕ
+  pub last : List ℕ
+
+abbrev pub Verdict : Bool → Type 0 → Type 0
+Verdict true fits = fits
+Verdict false fits = ¬ fits
+
+-- On fits there is a certificate of the engine's kind, and every one has that many lines; otherwise the figure is 0.
+abbrev pub LinesShown : Bool → ℕ → Input → Type 0
+LinesShown true lines i = ((words : List ℕ) × TrimmedInput i words) × ((words : List ℕ) (u : TrimmedInput i words) → u .taken .count ≡ lines)
+LinesShown false lines i = lines ≡ 0
+
+abbrev pub LastShown : List ℕ → List ℕ → Type 0
+LastShown [] table = Unit {0}
+LastShown (f ∷ fs) table = getD table (length table - 1) 0 ≡ f
+
+-- The bytes are read, the complete table has that many facts and rounds, the query fits by hand or does not, and lines and last fact are as
+-- shown.
+pub record RowTrue (row : Row) : Type 0 where
+  pub input : Input
+  pub is-read : ladder (row .book) (row .snapshot) (row .question) ≡ accepted input
+  pub table : List ℕ
+  pub completed : CompletedInput input (row .rounds) table
+  pub facts-counted : length table ≡ row .facts
+  pub verdict : Verdict (row .fits) (FitsInput input)
+  pub lines-shown : LinesShown (row .fits) (row .lines) input
+  pub last-shown : LastShown (row .last) table
+
+-- Book S: P(a) where some b other than a has Q(a, b); Q(a, b) for all a and b, of no record.
+abbrev pub bookS : List ℕ
+bookS =
+    2 ∷ 1 ∷ 2 ∷ 2
+    ∷ 0 ∷ 1 ∷ 1 ∷ 1 ∷ 1 ∷ 0 ∷ 0 ∷ 1 ∷ 1 ∷ 0 ∷ 1
+    ∷ 1 ∷ 0 ∷ 0 ∷ 0 ∷ 0 ∷ []
+
+-- A record with one field.
+abbrev node : ℕ → ℕ → List ℕ
+node address field = four address ++ (1 ∷ four field)
+
+abbrev pub rows : List Row
+rows =
+    record { book = bookL; snapshot = 0 ∷ []; question = asks 0 5 5; fits = true; facts = 5; rounds = 1; lines = 1; last = [] }
+    ∷ record { book = bookL; snapshot = 0 ∷ []; question = asks 0 5 6; fits = false; facts = 6; rounds = 1; lines = 0; last = [] }
+    ∷ record { book = bookL; snapshot = 1 ∷ node 10 20; question = asks 0 10 20; fits = true; facts = 7; rounds = 2; lines = 2; last = 42205185 ∷ [] }
+    ∷ record { book = bookL; snapshot = 1 ∷ node 10 20; question = asks 0 10 10; fits = false; facts = 7; rounds = 2; lines = 0; last = [] }
+    ∷ record { book = bookL; snapshot = 1 ∷ node 10 10; question = asks 0 10 10; fits = true; facts = 6; rounds = 2; lines = 2; last = [] }
+    ∷ record { book = bookL; snapshot = 2 ∷ (node 10 20 ++ node 20 10); question = asks 0 10 10; fits = true; facts = 10; rounds = 3; lines = 3; last = [] }
+    ∷ record { book = bookS; snapshot = 0 ∷ []; question = 0 ∷ 1 ∷ four 0; fits = true; facts = 12; rounds = 2; lines = 2; last = [] }
+    ∷ record { book = house; snapshot = 1 ∷ node 10 0; question = asks 2 10 0; fits = true; facts = 9; rounds = 3; lines = 3; last = [] }
+    ∷ record { book = house; snapshot = 1 ∷ node 10 0; question = asks 2 10 10; fits = false; facts = 9; rounds = 3; lines = 0; last = [] }
+    ∷ []
