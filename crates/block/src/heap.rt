@@ -2,8 +2,8 @@
 // number.
 ghost use mathlib.Core.Path.{_≡_};
 ghost use Prim.Native.Nat.{_+_, _≤_, _<_};
-ghost use lib.ListN.{length, set};
-ghost use Rattle.block.specs.Layout.{recordCount, recordPlace, recordAddress, recordSize, recordField, queryPredicate, queryCount, queryValue, queryValues};
+ghost use lib.ListN.{set};
+ghost use Rattle.block.specs.Layout.{recordCount, recordPlace, recordAddress, recordSize, recordField, queryPredicate, queryCount, queryValues};
 
 // A count as an index.
 fn wide(x: u32) -> usize
@@ -52,21 +52,7 @@ pub fn query_predicate(query: &[u32; 6]) -> u8
     query[0] as u8
 }
 
-// How many values it has.
-pub fn query_count(query: &[u32; 6]) -> usize
-    ensures { λ r. ⌜ (r ≡ queryCount (now (query .entry))) × (r < 4294967296) ⌝ }
-{
-    wide(query[1])
-}
-
-pub fn query_value(query: &[u32; 6], i: usize) -> u32
-    requires { ⌜ i < 4 ⌝ }
-    ensures { λ r. ⌜ r ≡ queryValue (now (query .entry)) i ⌝ }
-{
-    query[2 + i]
-}
-
-// All of them.
+// The values of the query.
 pub fn query_values(query: &[u32; 6]) -> &[u32]
     requires { ⌜ queryCount (now query) ≤ 4 ⌝ }
     ensures { λ r. ⌜ now r ≡ queryValues (now (query .entry)) ⌝ }
