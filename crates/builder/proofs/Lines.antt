@@ -18,10 +18,11 @@ use Rattle.semantics.specs.Contract.{padded}
 use Rattle.words.proofs.Digits.{digits-padded}
 use Rattle.semantics.proofs.Taking.{called-length}
 use Rattle.table.specs.Layered.{codeAt, roundAt}
-use Rattle.builder.specs.Space.{markAt, positionsIn, namesIn, calledIn, calledAt, Earlier, Grounded, Planned, count, lineOf, renamed}
+use Rattle.ground.specs.Grounded.{calledIn, calledAt, Grounded}
+use Rattle.builder.specs.Space.{markAt, positionsIn, namesIn, Earlier, Planned, count, lineOf, renamed}
 use Rattle.builder.specs.Plan.{Certifies}
 use Rattle.builder.proofs.Counting.{count-marked, count-rises, count-below, count-apart, count-same, Numbered, count-onto}
-use Rattle.builder.proofs.Packed.{called-read, positive, positive-padded}
+use Rattle.ground.proofs.Packed.{called-read, positive, positive-padded}
 
 -- The words have, for each marked place, a line with its fact, its positions and its called lines.
 pub record Described (ruleSet : RuleSet) (heap : Heap) (domain table : List ℕ) (at : ℕ) (space words : List ℕ) : Type 0 where

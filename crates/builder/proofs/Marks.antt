@@ -7,7 +7,8 @@ use native.Mathlib.Omega.{arith}
 use lib.ListN.{getD, set}
 use lib.Seq.{getD-set-other}
 use Rattle.semantics.specs.Lists.{digits, digitsOf}
-use Rattle.builder.specs.Space.{markAt, positionsIn, namesIn, calledIn, calledAt}
+use Rattle.ground.specs.Grounded.{calledIn, calledAt}
+use Rattle.builder.specs.Space.{markAt, positionsIn, namesIn}
 use Rattle.builder.specs.Steps.{marking, numberAt}
 
 pub marking-at : (space : List ℕ) (c : ℕ) → 0 < c → set space (3 * c - 3) 1 ≡ marking space c

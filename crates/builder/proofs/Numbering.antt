@@ -9,7 +9,8 @@ use lib.ListN.{length, getD, set, length-set}
 use lib.Seq.{getD-set-same}
 use Rattle.semantics.specs.Lists.{digits}
 use Rattle.semantics.proofs.Digits.{digitsOf-length}
-use Rattle.builder.specs.Space.{markAt, positionsIn, namesIn, calledIn, calledAt, count, lineOf, renamed}
+use Rattle.ground.specs.Grounded.{calledIn, calledAt}
+use Rattle.builder.specs.Space.{markAt, positionsIn, namesIn, count, lineOf, renamed}
 use Rattle.builder.specs.Steps.{numberAt, Numberable, Named}
 use Rattle.builder.proofs.Counting.{count-marked, count-free, count-below}
 use Rattle.builder.proofs.Marks.{mark-other, mark-positions, mark-names, names-marks, names-positions, names-other}

@@ -9,7 +9,8 @@ use native.Mathlib.Decide.{ℕ-discrete}
 use native.Mathlib.Nat.{eq-or-lt-of-le}
 use lib.ListN.{length, getD, set, length-set}
 use lib.Seq.{getD-set-same}
-use Rattle.builder.specs.Space.{markAt, positionsIn, namesIn, calledAt}
+use Rattle.ground.specs.Grounded.{calledAt}
+use Rattle.builder.specs.Space.{markAt, positionsIn, namesIn}
 use Rattle.builder.specs.Steps.{marking}
 use Rattle.builder.specs.Plan.{GroundedAt, visiting, Visited, Plans}
 use Rattle.builder.proofs.Marks.{mark-other, mark-positions, mark-names, positions-marks, positions-other, positions-names, names-marks, names-positions, names-other}

@@ -1,18 +1,15 @@
 -- The unfolding space while a certificate is built: three words for each place of the table. The first is the place's mark, and later its
 -- line's number; the second and the third are its line's, with places counted from 1 where line numbers come.
 use mathlib.Core.Bool.{true, false}
-use mathlib.Core.List.{List, _++_, map}
+use mathlib.Core.List.{List, map}
 use mathlib.Core.Logic.{_⊎_, _≢_}
 use mathlib.Core.Path.{_≡_}
-use Prim.Native.Nat.{ℕ, zero, suc, _+_, _*_, _/_, _%_, _≤_, _<_}
-use lib.ListN.{length, getD}
+use Prim.Native.Nat.{ℕ, zero, suc, _+_, _*_, _%_, _≤_, _<_}
+use lib.ListN.{getD}
 use lib.Dec.{eqb}
-use Rattle.semantics.specs.Lists.{_among_, digits, digitsOf}
-use Rattle.semantics.specs.RuleSet.{RuleSet, ruleOf}
-use Rattle.semantics.specs.Heap.{Heap}
-use Rattle.semantics.specs.Fact.{position}
-use Rattle.semantics.specs.Rounds.{Ground}
-use Rattle.table.specs.Layered.{codeAt, roundAt}
+use Rattle.semantics.specs.Lists.{digits}
+use Rattle.table.specs.Layered.{roundAt}
+use Rattle.ground.specs.Grounded.{calledIn, calledAt}
 
 abbrev pub markAt : List ℕ → ℕ → ℕ
 markAt space i = getD space (3 * i) 0
@@ -23,29 +20,10 @@ positionsIn space i = getD space (3 * i + 1) 0
 abbrev pub namesIn : List ℕ → ℕ → ℕ
 namesIn space i = getD space (3 * i + 2) 0
 
--- The called places of a third word, counted from 1; 0 for none.
-abbrev pub calledIn : ℕ → List ℕ
-calledIn names = digitsOf 65536 3 (names / 256)
-
--- Called place k of a third word.
-abbrev pub calledAt : ℕ → ℕ → ℕ
-calledAt names k = getD (calledIn names) k 0
-
 -- A place of an earlier round than that of place i, and before it.
 pub record Earlier (table : List ℕ) (i j : ℕ) : Type 0 where
   pub before : j < i
   pub round : roundAt table j < roundAt table i
-
--- A ground of the fact f from facts at allowed places of the table, in the second and the third word of a line.
-pub record Grounded (ruleSet : RuleSet) (heap : Heap) (domain table : List ℕ) (Allowed : ℕ → Type 0) (f positions names : ℕ) : Type 0 where
-  pub places : List ℕ
-  pub allowed : (j : ℕ) → j among places → Allowed j
-  pub ground : Ground ruleSet heap domain (map (codeAt table) places) f
-  pub number : ℕ
-  pub in-rule-set : number < length (ruleSet .rules)
-  pub is-rule : ruleOf ruleSet number ≡ ground .rule
-  pub written : positions ≡ digits 256 (map (position domain) (ground .arguments ++ ground .bound))
-  pub named : names ≡ number + 256 * digits 65536 (map suc places)
 
 -- The marked places up to `at`, which is one of them. A marked place calls only marked places before it, and each but `at` is called from
 -- a marked place after it.

@@ -2,7 +2,7 @@
 -- round; its words are written and its called places marked.
 use Prim.Native.Nat.{_+_, _*_}
 use lib.ListN.{set, length-set}
-use Rattle.builder.specs.Space.{calledAt}
+use Rattle.ground.specs.Grounded.{calledAt}
 use mathlib.Core.Path.{_∙_}
 use Rattle.builder.proofs.Layers.{supplied-grounded}
 use Rattle.builder.proofs.Planning.{three-marks, written-long}
