@@ -4,6 +4,3 @@ pub mod Among
 pub mod Variables
 pub mod Spares
 pub mod Keeping
-pub mod Placing
-pub mod PlacingRules
-pub mod Bridge

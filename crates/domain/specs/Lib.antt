@@ -1,4 +1,3 @@
 pub mod Insertion
 pub mod Spare
 pub mod Kept
-pub mod Placed

@@ -3,11 +3,20 @@ use mathlib.Core.List.{List, map}
 use mathlib.Core.Path.{_≡_}
 use mathlib.Core.Logic.{_⊎_}
 use Prim.Native.Nat.{ℕ, _+_, _≤_, _<_}
-use lib.ListN.{length, getD}
+use lib.ListN.{length, getD, take}
+use Rattle.semantics.specs.Lists.{_among_, Ascending}
+use Rattle.semantics.specs.Domain.{mostValues}
 use Rattle.semantics.specs.Fact.{position}
 use Rattle.semantics.specs.Placed.{placedRules}
 use Rattle.words.specs.Entries.{entries}
 use Rattle.block.specs.Layout.{recordPlace, recordAddress, recordSize, recordField, heapIn, positioned, ruleSetIn}
+
+-- The first n values of the array ascend, and the listed values are among them: then each has one position.
+pub record Placeable (array : List ℕ) (n : ℕ) (values : List ℕ) : Type 0 where
+  pub long : length array ≡ mostValues
+  pub few : n ≤ mostValues
+  pub ordered : Ascending (take n array)
+  pub all : (v : ℕ) → v among values → v among take n array
 
 -- Record k of the block `records` is that of the block `heap` in positions.
 pub record RecordPlaced (domain heap records : List ℕ) (k : ℕ) : Type 0 where

@@ -1,0 +1,5 @@
+pub mod Positions
+pub mod PlacingHeap
+pub mod PlacingQuery
+pub mod PlacingRules
+pub mod Bridge

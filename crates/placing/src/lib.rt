@@ -1,0 +1,88 @@
+// Rules, heap and query in positions of the domain.
+ghost use mathlib.Core.Path.{_≡_};
+ghost use mathlib.Core.List.{[], _∷_};
+ghost use Prim.Native.Nat.{_≤_, _<_};
+ghost use lib.ListN.{length, take};
+ghost use Rattle.semantics.specs.RuleSet.{WellFormed, fixedValues};
+ghost use Rattle.semantics.specs.Heap.{WellFormedHeap, recordValues, heapValues};
+ghost use Rattle.semantics.specs.Fact.{position as positionIn};
+ghost use Rattle.block.specs.Layout.{recordPlace, recordSize, recordIn, heapIn, ruleSetIn};
+ghost use Rattle.placing.specs.Placed.{Placeable, OnePlaced, HeapPlaced, QueryPlaced, RulesPlaced};
+
+// The position of v, which is one of the first n values.
+fn position(domain: &[u32; domain::MOST], n: usize, v: u32) -> u8
+    requires { ⌜ Placeable (now domain) n (v ∷ []) ⌝ }
+    ensures { λ r. ⌜ r ≡ positionIn (take n (now (domain .entry))) v ⌝ }
+{
+    domain::find(domain, n, v) as u8
+}
+
+// Writes record k in positions.
+fn place_record(
+    domain: &[u32; domain::MOST],
+    n: usize,
+    heap: &[u32; 97],
+    k: usize,
+    records: &mut [u8; 97],
+)
+    requires { ⌜ (k < 16) × (recordSize (now heap) k ≤ 4) × (length (now records) ≡ 97) × Placeable (now domain) n (recordValues (recordIn (now heap) (recordPlace k))) ⌝ }
+    ensures { λ _. ⌜ OnePlaced (take n (now (domain .entry))) (now (heap .entry)) (now (records .entry)) (now (records .exit)) k ⌝ }
+{
+    let fields = block::heap::record_size(heap, k);
+    let mut j = 0;
+    while j < fields {
+        let value = block::heap::record_field(heap, k, j);
+        block::heap::write_field(records, k, j, position(domain, n, value));
+        j += 1;
+    }
+    let address = block::heap::record_address(heap, k);
+    block::heap::write_address(records, k, position(domain, n, address));
+    block::heap::write_size(records, k, fields as u8);
+}
+
+// Writes the heap in positions.
+pub fn place_heap(domain: &[u32; domain::MOST], n: usize, heap: &[u32; 97], records: &mut [u8; 97])
+    requires { ⌜ WellFormedHeap (heapIn (now heap)) × (length (now records) ≡ 97) × Placeable (now domain) n (heapValues (heapIn (now heap))) ⌝ }
+    ensures { λ _. ⌜ HeapPlaced (take n (now (domain .entry))) (now (heap .entry)) (now (records .exit)) ⌝ }
+{
+    let count = block::heap::record_count(heap);
+    block::heap::write_count(records, count as u8);
+    let mut k = 0;
+    while k < count {
+        place_record(domain, n, heap, k, records);
+        k += 1;
+    }
+}
+
+// The positions of a query's values; unused ones are 0.
+pub fn place_query(domain: &[u32; domain::MOST], n: usize, values: &[u32]) -> [u8; 4]
+    requires { ⌜ (length (now values) ≤ 4) × Placeable (now domain) n (now values) ⌝ }
+    ensures { λ r. ⌜ QueryPlaced (take n (now (domain .entry))) (now (values .entry)) r ⌝ }
+{
+    let mut positions = [0u8; 4];
+    let mut i = 0;
+    while i < values.len() {
+        positions[i] = position(domain, n, values[i]);
+        i += 1;
+    }
+    positions
+}
+
+// From here on a term's byte is that of a fixed value.
+const FIXED: usize = 128;
+
+// Writes the fixed values of the rules in positions. Of the bytes that count, only theirs are `FIXED` or more.
+pub fn place_rules(domain: &[u32; domain::MOST], n: usize, rules: &mut [u8; 1168])
+    requires { ⌜ WellFormed (ruleSetIn (now rules)) × (length (now rules) ≡ 1168) × Placeable (now domain) n (fixedValues (ruleSetIn (now rules))) ⌝ }
+    ensures { λ _. ⌜ RulesPlaced (take n (now (domain .entry))) (now (rules .entry)) (now (rules .exit)) ⌝ }
+{
+    let end = block::rule_place(block::rule_count(rules));
+    let mut i = block::rule_place(0);
+    while i < end {
+        let byte = words::wide(rules[i]);
+        if FIXED <= byte {
+            rules[i] = (FIXED + domain::find(domain, n, (byte - FIXED) as u32)) as u8;
+        }
+        i += 1;
+    }
+}
