@@ -38,9 +38,6 @@ returns-4 c =
     let some : tie.Else1 Inv-loop μ-loop = c .before .before .before .before in
     checked (some .before .before .pre) (told-false (λ p. c .if4 .taken (c .before .fact-at .ensures ∙ p .is-last)))
 
-loop-holds : tie.Need-loop-holds Inv-loop μ-loop
-loop-holds c = (omega arith, omega arith, λ j h l. absurd (omega arith))
-
 line-holds-requires : tie.Need-line-holds-requires Inv-loop μ-loop
 line-holds-requires c κs =
     let l = c .before in
@@ -73,5 +70,6 @@ returns-6 c =
 pub check-spec : {M : Type 1} → statement M
 check-spec =
     tie.close
-    (tie.spec Inv-loop μ-loop returns returns-2 returns-3 (λ c κs. search needs) returns-4 loop-holds line-holds-requires
-    (λ c. search needs) (λ c. search needs) loop-again returns-5 returns-6)
+    (tie.spec Inv-loop μ-loop returns returns-2 returns-3 (λ c κs. search needs) returns-4
+    (λ c. (omega arith, omega arith, λ j h l. absurd (omega arith))) line-holds-requires (λ c. search needs) (λ c. search needs) loop-again
+    returns-5 returns-6)

@@ -5,8 +5,5 @@ use lib.Pow.{pow-lt}
 use Rattle.certificate.proofs.join.bit.Statement.{statement}
 use Rattle.certificate.proofs.join.bit.Tie as tie
 
-returns : tie.Need-returns
-returns c = omega (arith, pow-lt (c .pre))
-
 pub bit-spec : {M : Type 1} → statement M
-bit-spec = tie.close (tie.spec (λ c. search needs) (λ c. search needs) returns)
+bit-spec = tie.close (tie.spec (λ c. search needs) (λ c. search needs) (λ c. omega (arith, pow-lt (c .pre))))

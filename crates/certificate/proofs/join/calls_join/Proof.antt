@@ -78,9 +78,6 @@ small c =
     sum-small (c .before .before .part-of .result) (l .loop .sum) (omega (arith, c .before .before .part-of .ensures)) (l .loop .inv .1)
     (told-apart (c .before .shares .ensures) (c .if2 .left))
 
-add-sum : tie.Need-add-sum Inv-loop μ-loop
-add-sum c = record { fits = small c }
-
 loop-again : tie.Need-loop-again Inv-loop μ-loop
 loop-again c =
     let called : tie.Then1 Inv-loop μ-loop = c .before .before .before .before in
@@ -116,5 +113,5 @@ pub calls-join-spec : {M : Type 1} → statement M
 calls-join-spec =
     tie.close
     (tie.spec Inv-loop μ-loop (λ c κs. search needs) (λ c κs. search needs) (λ c κs. search needs) loop-holds (λ c κs. search needs) returns
-    fact-at-requires (λ c κs. search needs) (λ c κs. search needs) returns-2 add-sum (λ c. search needs) (λ c. search needs) loop-again
-    returns-3 (λ c κs. search needs) (λ c κs. search needs) returns-4)
+    fact-at-requires (λ c κs. search needs) (λ c κs. search needs) returns-2 (λ c. record { fits = small c }) (λ c. search needs)
+    (λ c. search needs) loop-again returns-3 (λ c κs. search needs) (λ c κs. search needs) returns-4)

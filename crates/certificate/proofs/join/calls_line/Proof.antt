@@ -6,12 +6,6 @@ use Rattle.certificate.proofs.Passing.{line-told}
 use Rattle.certificate.proofs.join.calls_line.Statement.{statement}
 use Rattle.certificate.proofs.join.calls_line.Tie as tie
 
-returns : tie.Need-returns
-returns c = told-false (λ p. omega (arith, p .some, c .if1 .taken))
-
-returns-2 : tie.Need-returns-2
-returns-2 c = told-false (λ p. omega (arith, p .earlier, c .if2 .taken))
-
 returns-3 : tie.Need-returns-3
 returns-3 c =
     let later : tie.Else2 = c .before .before .before in
@@ -20,4 +14,8 @@ returns-3 c =
     (c .before .part-of .ensures) (c .call-fact .ensures)
 
 pub calls-line-spec : {M : Type 1} → statement M
-calls-line-spec = tie.close (tie.spec returns returns-2 (λ c κs. search needs) (λ c κs. search needs) (λ c κs. search needs) returns-3)
+calls-line-spec =
+    tie.close
+    (tie.spec (λ c. told-false (λ p. omega (arith, p .some, c .if1 .taken)))
+    (λ c. told-false (λ p. omega (arith, p .earlier, c .if2 .taken))) (λ c κs. search needs) (λ c κs. search needs) (λ c κs. search needs)
+    returns-3)

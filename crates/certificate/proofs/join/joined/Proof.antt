@@ -67,9 +67,6 @@ small c =
     let l = at (c .before .before .before) in
     sum-small (c .before .before .bit .result) (l .loop .used) (omega (arith, c .before .before .bit .ok)) (l .loop .inv .1) (told-apart (c .before .shares .ensures) (c .if2 .left))
 
-add-used : tie.Need-add-used Inv-loop μ-loop
-add-used c = record { fits = small c }
-
 loop-again : tie.Need-loop-again Inv-loop μ-loop
 loop-again c =
     let free : tie.Else1 Inv-loop μ-loop = c .before .before .before in
@@ -97,5 +94,5 @@ pub joined-spec : {M : Type 1} → statement M
 joined-spec =
     tie.close
     (tie.spec Inv-loop μ-loop (λ c κs. search needs) (λ c κs. search needs) loop-holds (λ c κs. search needs) (λ c κs. search needs) returns
-    (λ c κs. search needs) (λ c κs. search needs) returns-2 add-used (λ c. search needs) (λ c. search needs) loop-again
-    (λ c κs. search needs) returns-3)
+    (λ c κs. search needs) (λ c κs. search needs) returns-2 (λ c. record { fits = small c }) (λ c. search needs) (λ c. search needs)
+    loop-again (λ c κs. search needs) returns-3)

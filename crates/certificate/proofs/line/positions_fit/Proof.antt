@@ -15,9 +15,6 @@ Inv-loop word variables n rest₀ left₀ rest left =
 abbrev μ-loop : tie.MeasureT-loop
 μ-loop word variables n rest₀ left₀ rest left = left
 
-loop-holds : tie.Need-loop-holds Inv-loop μ-loop
-loop-holds c = (λ p. p, λ p. p)
-
 returns : tie.Need-returns Inv-loop μ-loop
 returns c =
     let l = c .before .before .loop in
@@ -38,4 +35,6 @@ returns-2 c =
     told-equal (l .rest) 0 (λ e. l .inv .1 (positions-end n (l .left) (l .rest) (omega arith) e)) (λ p. positions-none n (l .left) (l .rest) (omega arith) (l .inv .0 p))
 
 pub positions-fit-spec : {M : Type 1} → statement M
-positions-fit-spec = tie.close (tie.spec Inv-loop μ-loop loop-holds returns (λ c. search needs) (λ c. search needs) loop-again returns-2)
+positions-fit-spec =
+    tie.close
+    (tie.spec Inv-loop μ-loop (λ c. (λ p. p, λ p. p)) returns (λ c. search needs) (λ c. search needs) loop-again returns-2)

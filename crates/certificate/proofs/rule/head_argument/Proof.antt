@@ -8,8 +8,7 @@ use Rattle.certificate.proofs.rule.head_argument.Tie as tie
 returns : tie.Need-returns
 returns c = let g = c .before .before .args in c .variable-of .ensures ∙ head-at (g .word) (g .count) (g .j) (c .before .if1 .taken)
 
-returns-2 : tie.Need-returns-2
-returns-2 c = let g = c .before .args in head-past (g .word) (g .count) (g .j) (c .if1 .left)
-
 pub head-argument-spec : {M : Type 1} → statement M
-head-argument-spec = tie.close (tie.spec (λ c κs. search needs) returns returns-2)
+head-argument-spec =
+    tie.close
+    (tie.spec (λ c κs. search needs) returns (λ c. let g = c .before .args in head-past (g .word) (g .count) (g .j) (c .if1 .left)))

@@ -8,8 +8,7 @@ use Rattle.certificate.proofs.rule.position.Tie as tie
 returns : tie.Need-returns
 returns c = c .variable .ensures ∙ term-variable (c .before .before .args .word) (c .before .before .args .term) (c .before .if1 .taken)
 
-returns-2 : tie.Need-returns-2
-returns-2 c = term-fixed (c .before .args .word) (c .before .args .term) (c .if1 .left)
-
 pub position-spec : {M : Type 1} → statement M
-position-spec = tie.close (tie.spec (λ c κs. search needs) returns returns-2)
+position-spec =
+    tie.close
+    (tie.spec (λ c κs. search needs) returns (λ c. term-fixed (c .before .args .word) (c .before .args .term) (c .if1 .left)))

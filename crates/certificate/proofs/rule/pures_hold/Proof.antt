@@ -17,9 +17,6 @@ Inv-loop rules rule word count k₀ k =
 abbrev μ-loop : tie.MeasureT-loop
 μ-loop rules rule word count k₀ k = count - k
 
-loop-holds : tie.Need-loop-holds Inv-loop μ-loop
-loop-holds c = (omega arith, below-none _)
-
 loop-again : tie.Need-loop-again Inv-loop μ-loop
 loop-again c = (omega arith, below-more _ _ (c .before .before .before .loop .inv .1) (c .before .pure-holds .ensures .so (c .if1 .taken)))
 
@@ -36,5 +33,5 @@ returns-2 c =
 pub pures-hold-spec : {M : Type 1} → statement M
 pures-hold-spec =
     tie.close
-    (tie.spec Inv-loop μ-loop (λ c κs. search needs) loop-holds (λ c κs. search needs) (λ c. search needs) (λ c. search needs) loop-again
-    returns returns-2)
+    (tie.spec Inv-loop μ-loop (λ c κs. search needs) (λ c. (omega arith, below-none _)) (λ c κs. search needs) (λ c. search needs)
+    (λ c. search needs) loop-again returns returns-2)

@@ -11,8 +11,8 @@ use Rattle.certificate.proofs.rule.variable.Tie as tie
 returns : tie.Need-returns
 returns c = c .variable-of .ensures ∙ ap (λ (v : ℕ). getD (givenBy (c .before .before .before .args .word)) v 0) (c .before .wide .ensures .0)
 
-returns-2 : tie.Need-returns-2
-returns-2 c = variable-beyond (c .before .args .word) (c .before .args .v) (c .if1 .left)
-
 pub variable-spec : {M : Type 1} → statement M
-variable-spec = tie.close (tie.spec (λ c κs. search needs) (λ c κs. search needs) returns returns-2)
+variable-spec =
+    tie.close
+    (tie.spec (λ c κs. search needs) (λ c κs. search needs) returns
+    (λ c. variable-beyond (c .before .args .word) (c .before .args .v) (c .if1 .left)))
