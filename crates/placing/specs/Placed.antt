@@ -2,13 +2,14 @@
 use mathlib.Core.List.{List, map}
 use mathlib.Core.Path.{_≡_}
 use mathlib.Core.Logic.{_⊎_}
-use Prim.Native.Nat.{ℕ, _+_, _≤_, _<_}
+use Prim.Native.Nat.{ℕ, _+_, _-_, _≤_, _<_}
 use lib.ListN.{length, getD, take}
 use Rattle.semantics.specs.Lists.{_among_, Ascending}
 use Rattle.semantics.specs.Domain.{mostValues}
 use Rattle.semantics.specs.Fact.{position}
 use Rattle.semantics.specs.Placed.{placedRules}
 use Rattle.words.specs.Entries.{entries}
+use Rattle.domain.specs.Insertion.{Parts}
 use Rattle.block.specs.Layout.{recordPlace, recordAddress, recordSize, recordField, heapIn, positioned, ruleSetIn}
 
 -- The first n values of the array ascend, and the listed values are among them: then each has one position.
@@ -39,6 +40,22 @@ pub record HeapPlaced (domain heap records : List ℕ) : Type 0 where
 pub record QueryPlaced (domain values positions : List ℕ) : Type 0 where
   pub is : entries positions 0 (length values) ≡ map (position domain) values
   pub unused : (i : ℕ) → length values ≤ i → getD positions i 0 ≡ 0
+
+-- No byte from `start` up to `end` is above r.
+abbrev pub Highest : List ℕ → ℕ → ℕ → ℕ → Type 0
+Highest bytes start end r = (k : ℕ) → start ≤ k → k < end → getD bytes k 0 ≤ r
+
+-- A byte below 128 stays, and any other becomes 128 and the place of its value in the array.
+pub record BytePlaced (array : List ℕ) (n before after : ℕ) : Type 0 where
+  pub low : before < 128 → after ≡ before
+  pub high : 128 ≤ before → 128 ≤ after
+  pub place : 128 ≤ before → Parts array n (before - 128) (after - 128)
+
+-- The bytes from `start` up to `end` are placed, and nothing else is changed.
+pub record BytesPlaced (array : List ℕ) (n : ℕ) (before after : List ℕ) (start end : ℕ) : Type 0 where
+  pub long : length after ≡ 1168
+  pub placed : (k : ℕ) → start ≤ k → k < end → BytePlaced array n (getD before k 0) (getD after k 0)
+  pub others : (k : ℕ) → (k < start) ⊎ (end ≤ k) → getD after k 0 ≡ getD before k 0
 
 -- The rules in positions.
 pub record RulesPlaced (domain before after : List ℕ) : Type 0 where

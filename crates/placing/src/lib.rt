@@ -7,7 +7,8 @@ ghost use Rattle.semantics.specs.RuleSet.{WellFormed, fixedValues};
 ghost use Rattle.semantics.specs.Heap.{WellFormedHeap, recordValues, heapValues};
 ghost use Rattle.semantics.specs.Fact.{position as positionIn};
 ghost use Rattle.block.specs.Layout.{recordPlace, recordSize, recordIn, heapIn, ruleSetIn};
-ghost use Rattle.placing.specs.Placed.{Placeable, OnePlaced, HeapPlaced, QueryPlaced, RulesPlaced};
+ghost use Rattle.domain.specs.Insertion.{Room};
+ghost use Rattle.placing.specs.Placed.{Placeable, OnePlaced, HeapPlaced, QueryPlaced, Highest, BytesPlaced, RulesPlaced};
 
 // The position of v, which is one of the first n values.
 fn position(domain: &[u32; domain::MOST], n: usize, v: u32) -> u8
@@ -71,18 +72,57 @@ pub fn place_query(domain: &[u32; domain::MOST], n: usize, values: &[u32]) -> [u
 // From here on a term's byte is that of a fixed value.
 const FIXED: usize = 128;
 
-// Writes the fixed values of the rules in positions. Of the bytes that count, only theirs are `FIXED` or more.
-pub fn place_rules(domain: &[u32; domain::MOST], n: usize, rules: &mut [u8; 1168])
-    requires { ⌜ WellFormed (ruleSetIn (now rules)) × (length (now rules) ≡ 1168) × Placeable (now domain) n (fixedValues (ruleSetIn (now rules))) ⌝ }
-    ensures { λ _. ⌜ RulesPlaced (take n (now (domain .entry))) (now (rules .entry)) (now (rules .exit)) ⌝ }
+// The largest byte from a place up to another, or 0; with no way out before the end, so that the compiler can take several at a time.
+fn highest(rules: &[u8; 1168], start: usize, end: usize) -> u8
+    requires { ⌜ end ≤ 1168 ⌝ }
+    ensures { λ r. ⌜ Highest (now (rules .entry)) start end r ⌝ }
 {
-    let end = block::rule_place(block::rule_count(rules));
-    let mut i = block::rule_place(0);
+    let mut most = 0;
+    let mut i = start;
+    while i < end {
+        if most < rules[i] {
+            most = rules[i];
+        }
+        i += 1;
+    }
+    most
+}
+
+// Writes the fixed values among the bytes from a place up to another in positions.
+fn place_bytes(
+    domain: &[u32; domain::MOST],
+    n: usize,
+    rules: &mut [u8; 1168],
+    start: usize,
+    end: usize,
+)
+    requires { ⌜ Room (now domain) n 0 × (length (now rules) ≡ 1168) × (start ≤ end) × (end ≤ 1168) ⌝ }
+    ensures { λ _. ⌜ BytesPlaced (now (domain .entry)) n (now (rules .entry)) (now (rules .exit)) start end ⌝ }
+{
+    let mut i = start;
     while i < end {
         let byte = words::wide(rules[i]);
         if FIXED <= byte {
             rules[i] = (FIXED + domain::find(domain, n, (byte - FIXED) as u32)) as u8;
         }
         i += 1;
+    }
+}
+
+// Writes the fixed values of the rules in positions. Of the bytes that count, only theirs are `FIXED` or more; a rule without one is
+// passed over.
+pub fn place_rules(domain: &[u32; domain::MOST], n: usize, rules: &mut [u8; 1168])
+    requires { ⌜ WellFormed (ruleSetIn (now rules)) × (length (now rules) ≡ 1168) × Placeable (now domain) n (fixedValues (ruleSetIn (now rules))) ⌝ }
+    ensures { λ _. ⌜ RulesPlaced (take n (now (domain .entry))) (now (rules .entry)) (now (rules .exit)) ⌝ }
+{
+    let count = block::rule_count(rules);
+    let mut k = 0;
+    while k < count {
+        let start = block::rule_place(k);
+        let end = block::rule_place(k + 1);
+        if FIXED <= words::wide(highest(rules, start, end)) {
+            place_bytes(domain, n, rules, start, end);
+        }
+        k += 1;
     }
 }

@@ -1,0 +1,48 @@
+-- `place_bytes` meets its contract: the bytes before place i are placed, and the others are as they were.
+use Prim.Native.Nat.{_+_, _-_, _≤_}
+use mathlib.Core.Path.{_≡_}
+use mathlib.Core.Logic.{⊎-elim}
+use native.Mathlib.Omega.{arith}
+use Rattle.placing.specs.Placed.{BytesPlaced}
+use Rattle.placing.proofs.PlacingRules.{bytes-low, bytes-join, byte-low, byte-fixed}
+use borrow.Author.Needs.{needs}
+use Rattle.placing.proofs.place_bytes.Statement.{statement}
+use Rattle.placing.proofs.place_bytes.Tie as tie
+
+abbrev Inv-loop : tie.InvT-loop
+Inv-loop domain n rules₀ start end i₀ rules i = (start ≤ i) × (i ≤ end) × BytesPlaced domain n rules₀ rules start i
+
+abbrev μ-loop : tie.MeasureT-loop
+μ-loop domain n rules₀ start end i₀ rules i = end - i
+
+loop-holds : tie.Need-loop-holds Inv-loop μ-loop
+loop-holds c =
+    (omega arith, omega arith, bytes-low (c .args .domain .now) (c .args .n) (c .args .rules .now) (c .args .start) (c .args .start) (c .pre .1) (λ k a b. absurd (omega arith)))
+
+find-requires : tie.Need-find-requires Inv-loop μ-loop
+find-requires c κs = c .before .before .before .before .before .pre .0
+
+loop-again : tie.Need-loop-again Inv-loop μ-loop
+loop-again c =
+    let s = c .before .before .before .before .before in
+    let l = c .before .before .before .before .loop in
+    let e = c .before .wide .ensures .0 in
+    let join = bytes-join (s .args .domain .now) (s .args .n) (s .args .rules .now) (s .args .start) (l .rules) (c .if1 .rules) (l .i) (l .i + 1) (l .inv .0) (omega arith) (l .inv .2) in (
+      omega arith,
+      omega arith,
+      join (⊎-elim
+          (λ w. rw (w .2) (byte-fixed (s .args .domain .now) (s .args .n) (l .rules) (l .i) (w .1 .result) (l .inv .2 .long) (omega arith) (omega (arith, w .0 .taken)) (rw e at (w .1 .ensures))))
+          (λ w. rw (w .1) (byte-low (s .args .domain .now) (s .args .n) (l .rules) (l .i) (l .inv .2 .long) (omega (arith, w .0 .left)))) (c .if1 .came)),
+    )
+
+returns : tie.Need-returns Inv-loop μ-loop
+returns c =
+    let l = c .before .loop in
+    let e : l .i ≡ c .before .before .args .end = omega arith in
+    rw e at (l .inv .2)
+
+pub place-bytes-spec : {M : Type 1} → statement M
+place-bytes-spec =
+    tie.close
+    (tie.spec Inv-loop μ-loop loop-holds (λ c. search needs) (λ c κs. search needs) (λ c. search needs) find-requires (λ c. search needs)
+    (λ c. search needs) (λ c. search needs) (λ c. search needs) (λ c. search needs) loop-again returns)
