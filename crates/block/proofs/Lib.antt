@@ -1,3 +1,4 @@
 pub mod ReadyBlocks
 pub mod RuleInBlock
 pub mod Scopes
+pub mod Values
