@@ -1,15 +1,15 @@
 -- The values that the heap's block holds, by their places.
-use mathlib.Core.Path.{_≡_, ap₂, _∙_}
-use mathlib.Core.List.{List, [], _∷_, List·Memᴰ·tail}
-use Prim.Native.Nat.{ℕ, zero, suc, _+_, _-_, _≤_, _<_}
+use mathlib.Core.Path.{_≡_, refl, _∙_}
+use mathlib.Core.List.{List, _∷_, Memᴰ·append-right}
+use Prim.Native.Nat.{ℕ, suc, _+_, _-_, _≤_, _<_}
 use native.Mathlib.Omega.{arith}
-use lib.ListN.{length, getD, drop, length-drop, drop-of-length-le}
+use lib.ListN.{length, getD, take, drop, length-drop, drop-of-length-le, take-append-drop}
 use lib.Seq.{drop-cons}
 use Rattle.semantics.specs.Lists.{_among_}
 use Rattle.semantics.specs.Heap.{Record, blank, recordValues, heapValues, WellFormedHeap}
 use Rattle.semantics.specs.Domain.{mostValues}
-use Rattle.semantics.proofs.DomainFacts.{heap-length}
-use Rattle.words.specs.Entries.{tabulate, entries}
+use Rattle.semantics.proofs.DomainFacts.{heap-length, heap-values}
+use Rattle.words.specs.Entries.{entries}
 use Rattle.block.specs.Layout.{recordCount, recordPlace, recordSize, recordField, recordIn, heapIn}
 use Rattle.words.proofs.Tabulate.{entries-length, tabulate-length, tabulate-at, tabulate-in}
 use Rattle.domain.specs.Insertion.{Room, Inserted}
@@ -45,6 +45,12 @@ module _ (heap : List ℕ) (formed : WellFormedHeap (heapIn heap)) where
   pub fields-few : (k : ℕ) → k < recordCount heap → recordSize heap k ≤ 4
   fields-few k h = omega (arith, formed .fields-few (recordOf heap k) (record-in k h), fields-length heap k)
 
+-- a value of a record is one of the heap's
+pub value-in : {v : ℕ} (heap : List ℕ) (k : ℕ) → k < recordCount heap → v among recordValues (recordOf heap k) → v among heapValues (heapIn heap)
+unfolding heapIn
+value-in {v} heap k h m =
+    heap-values (heapIn heap) k (omega (arith, heap-count heap)) v (rw (tabulate-at (recordCount heap) (recordOf heap) blank k h) m)
+
 -- ---- the heap's values, inserted from the last record to the first
 
 pub heap-end : {before : List ℕ} {n : ℕ} (heap : List ℕ) (k : ℕ) → recordCount heap ≤ k → length before ≡ mostValues
@@ -56,22 +62,13 @@ pub heap-down : {a b c : List ℕ} {n m r : ℕ} (heap : List ℕ) (k : ℕ) →
     → Inserted b c m (recordValues (recordOf heap (k - 1))) r → Inserted a c n (heapValues (drop (k - 1) (heapIn heap))) r
 unfolding heapValues heapIn
 heap-down heap k h l p q =
-    let f : ℕ → Record = recordOf heap in
-    let n : ℕ = recordCount heap in
     let s : suc (k - 1) ≡ k = omega arith in
-    let here : drop (k - 1) (tabulate n f) ≡ f (k - 1) ∷ drop k (tabulate n f) =
-    drop-cons (tabulate n f) (k - 1) blank (omega (arith, tabulate-length n f))
-    ∙ ap₂ (λ (r : Record) (i : ℕ). r ∷ drop i (tabulate n f)) (tabulate-at n f blank (k - 1) (omega arith)) s in
-    rw here (inserted-also (recordValues (f (k - 1))) (heapValues (drop k (tabulate n f))) p q)
-
--- members of what is left of a list are members of the list
-drop-in : {A : Type 0} {a : A} (k : ℕ) (xs : List A) → a among drop k xs → a among xs
-drop-in zero xs m = m
-drop-in (suc k) [] m = m
-drop-in (suc k) (x ∷ xs) m = List·Memᴰ·tail (drop-in k xs m)
+    let here : drop (k - 1) (heapIn heap) ≡ recordOf heap (k - 1) ∷ drop k (heapIn heap) =
+    drop-cons (heapIn heap) (k - 1) blank (omega (arith, heap-count heap)) ∙ rw (s, tabulate-at (recordCount heap) (recordOf heap) blank (k - 1) (omega arith)) refl in
+    rw here (inserted-also (recordValues (recordOf heap (k - 1))) (heapValues (drop k (heapIn heap))) p q)
 
 pub heap-room : {a b : List ℕ} {n m : ℕ} (heap : List ℕ) (k : ℕ) → WellFormedHeap (heapIn heap) → 0 < k → k ≤ recordCount heap → Room a n 80
     → Inserted a b n (heapValues (drop k (heapIn heap))) m → Room b m 5
 heap-room heap k formed l h r p =
     inserted-room 5 r p
-    (omega (arith, heap-length (drop k (heapIn heap)) (λ here m. formed .fields-few here (drop-in k (heapIn heap) m)), length-drop k (heapIn heap), heap-count heap, formed .records-few))
+    (omega (arith, heap-length (drop k (heapIn heap)) (λ here m. formed .fields-few here (rw (take-append-drop k (heapIn heap)) at (Memᴰ·append-right (take k (heapIn heap)) m))), length-drop k (heapIn heap), heap-count heap, formed .records-few))
