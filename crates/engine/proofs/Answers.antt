@@ -11,8 +11,8 @@ use Rattle.semantics.proofs.FormatsFacts.{ladder-read}
 use Rattle.block.specs.Layout.{inputIn}
 use Rattle.formats.specs.Refusal.{Read}
 use Rattle.formats.proofs.Answers.{is-accepted, is-refused, accepted-long}
-use Rattle.formats.specs.declared.Ladder.{Ladder}
-use Rattle.formats.specs.declared.Ladder.the-variants.{Accepted, Refused}
+use Rattle.reader.specs.declared.Ladder.{Ladder}
+use Rattle.reader.specs.declared.Ladder.the-variants.{Accepted, Refused}
 
 module _ {book snapshot question rules heap query : List ℕ} {r : Ladder} where
   pub well-formed : Read book snapshot question rules heap query r → r ≡ Accepted → WellFormedInput (inputIn rules heap query)

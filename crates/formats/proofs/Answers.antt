@@ -7,7 +7,7 @@ use Rattle.semantics.specs.Reader.{accepted, refused}
 use Rattle.semantics.specs.Formats.{ladder}
 use Rattle.block.specs.Layout.{inputIn}
 use Rattle.formats.specs.Refusal.{Read}
-use Rattle.formats.specs.declared.Ladder.the-variants.{Accepted, Refused}
+use Rattle.reader.specs.declared.Ladder.the-variants.{Accepted, Refused}
 
 pub is-refused : {book snapshot question rules heap query : List ℕ} (n : ℕ) → Read book snapshot question rules heap query (Refused n)
     → ladder book snapshot question ≡ refused n

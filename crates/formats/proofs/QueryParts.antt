@@ -11,15 +11,15 @@ use lib.Seq.{getD-set-same, getD-set-other}
 use lib.Dec.{leb, ltb, eqb}
 use Rattle.semantics.specs.Reader.{Reader, onward, _>>=_, byte, ensure, times}
 use Rattle.semantics.specs.Formats.{value, query}
-use Rattle.formats.specs.Cursor.{Yields, rangedByte, byteBelow, Ranged, Below}
-use Rattle.formats.specs.HeapLayout.{valueLayout}
-use Rattle.formats.specs.Layout.{Fills, many, Header, aritiesIn}
+use Rattle.reader.specs.Cursor.{Yields, rangedByte, byteBelow, Ranged, Below}
+use Rattle.reader.specs.Layout.{valueLayout, Fills, many}
+use Rattle.book.specs.BookLayout.{Header, aritiesIn}
 use Rattle.formats.specs.Refusal.{queryIn}
-use Rattle.formats.specs.declared.Cursor.{Cursor}
-use Rattle.formats.specs.declared.Entry.{Entry}
-use Rattle.formats.proofs.Chain.{assoc, chain, done, alike, turn}
-use Rattle.formats.proofs.Heading.{arities-length, arity-at}
-use Rattle.formats.proofs.Locals.{ones}
+use Rattle.reader.specs.declared.Cursor.{Cursor}
+use Rattle.reader.specs.declared.Entry.{Entry}
+use Rattle.reader.proofs.Chain.{assoc, chain, done, alike, turn}
+use Rattle.book.proofs.Heading.{arities-length, arity-at}
+use Rattle.reader.proofs.Section.{ones}
 
 below-then : {A : Type 0} {bytes : List ℕ} {c c₁ c₂ : Cursor} {v : ℕ} {a : A} (short off n : ℕ) (next : ℕ → Reader A)
     → Yields (byteBelow short off n) bytes c c₁ v → Yields (next v) bytes c₁ c₂ a

@@ -1,44 +1,15 @@
--- The answers of the ladder, and what they stand for.
-use mathlib.Core.List.{List, [], _∷_}
+-- What `read` and the reader of a question promise.
+use mathlib.Core.List.{List}
 use mathlib.Core.Path.{_≡_}
 use Prim.Native.Nat.{ℕ}
-use lib.ListN.{length, getD, drop}
-use Rattle.semantics.specs.Reader.{Result, accepted, refused}
-use Rattle.semantics.specs.Formats.{readRuleSet, readSnapshot, Query, readQuery, ladder}
+use lib.ListN.{length, getD}
+use Rattle.semantics.specs.Formats.{Query, readQuery, ladder}
 use Rattle.words.specs.Entries.{entries}
-use Rattle.block.specs.Layout.{ruleSetIn, heapIn, inputIn}
-use Rattle.formats.specs.Layout.{Header}
-use Rattle.formats.specs.declared.Cursor.{Cursor}
-use Rattle.formats.specs.declared.Cursor.the-variants.{At, Fault}
-use Rattle.formats.specs.declared.Ladder.{Ladder}
-use Rattle.formats.specs.declared.Ladder.the-variants.{Accepted, Refused}
+use Rattle.block.specs.Layout.{inputIn}
+use Rattle.reader.specs.Answer.{resultOf}
+use Rattle.reader.specs.declared.Ladder.{Ladder}
 
--- The result that an answer stands for, where `a` is what was read.
-abbrev pub resultOf : {A : Type 0} → Ladder → A → Result A
-resultOf Accepted a = accepted a
-resultOf (Refused n) a = refused n
-
--- At the end of the reading no byte may be left.
-abbrev pub unlessMore : ℕ → List ℕ → Ladder
-unlessMore more [] = Accepted
-unlessMore more (b ∷ bytes) = Refused more
-
-abbrev pub finished : ℕ → List ℕ → Cursor → Ladder
-finished more bytes (At at) = unlessMore more (drop at bytes)
-finished more bytes (Fault n) = Refused n
-
--- What the reader of a book promises.
-pub record RulesRead (book block block′ : List ℕ) (r : Ladder) : Type 0 where
-  pub is : readRuleSet book ≡ resultOf r (ruleSetIn block′)
-  pub header : Header block′
-  pub long : length block′ ≡ length block
-
--- Of a snapshot.
-pub record HeapRead (snapshot block block′ : List ℕ) (r : Ladder) : Type 0 where
-  pub is : readSnapshot snapshot ≡ resultOf r (heapIn block′)
-  pub long : length block′ ≡ length block
-
--- Of a question, where the rule set has these arities.
+-- What the reader of a question promises, where the rule set has these arities.
 abbrev pub queryIn : List ℕ → Query
 queryIn block = record { predicate = getD block 0 0; values = entries block 2 (getD block 1 0) }
 

@@ -1,39 +1,10 @@
-// The readers: from the bytes of book, snapshot and question to the decoded blocks, or to the number of the first fault met. Each reader
-// takes a cursor and gives the next one. A cursor keeps the first fault, so that readers stand one after the other as the formats say.
-mod book;
-mod bytes;
-mod fields;
+// From the bytes of book, snapshot and question to the decoded blocks, or to the number of the first fault met; and the house book.
 mod question;
-mod reader;
-mod snapshot;
 
+pub use reader::Ladder;
 ghost use mathlib.Core.Path.{_≡_};
 ghost use Rattle.semantics.specs.Contract.{house as houseBook};
 ghost use Rattle.formats.specs.Refusal.{Read};
-
-// Where reading stands: at a place of the bytes, or at the first fault met, with its number.
-pub enum Cursor {
-    At(usize),
-    Fault(u8),
-}
-
-// A byte that was read, and where reading goes on. After a fault the value is one that a byte there may have.
-pub struct Entry {
-    pub cursor: Cursor,
-    pub value: u8,
-}
-
-// A number of four bytes that was read, and where reading goes on.
-pub struct Number {
-    pub cursor: Cursor,
-    pub value: u32,
-}
-
-// What the ladder says: all was read, or the number of the refusal.
-pub enum Ladder {
-    Accepted,
-    Refused(u8),
-}
 
 // Refusals 1 to 9: the book, then the snapshot, then the question, each into its block. On a refusal what the blocks hold means nothing.
 pub fn read(

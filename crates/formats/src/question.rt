@@ -1,19 +1,19 @@
 // The question, into a block of 6 numbers.
-use super::Cursor;
-use super::Ladder;
-use super::bytes::below;
-use super::bytes::finish;
-use super::bytes::ranged;
-use super::fields::values;
-use super::fields::wide;
 use block::ARITIES;
 use block::FIRST_VALUE;
 use block::PREDICATE;
 use block::PREDICATES;
 use block::VALUES;
+use reader::Cursor;
+use reader::Ladder;
+use reader::bytes::below;
+use reader::bytes::finish;
+use reader::bytes::ranged;
+use reader::fields::values;
+use reader::fields::wide;
 ghost use mathlib.Core.Path.{_≡_};
 ghost use lib.ListN.{length};
-ghost use Rattle.formats.specs.Layout.{aritiesIn, Header};
+ghost use Rattle.book.specs.BookLayout.{aritiesIn, Header};
 ghost use Rattle.formats.specs.Refusal.{QueryRead};
 
 // The refusal of a question, whatever does not match.

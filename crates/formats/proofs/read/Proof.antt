@@ -1,5 +1,5 @@
 -- The first of the three that refuses gives the refusal; where none does, the blocks hold what the ladder accepts.
-use Rattle.formats.proofs.Finishing.{book-refused, snapshot-refused, all-read}
+use Rattle.formats.proofs.LadderParts.{book-refused, snapshot-refused, all-read}
 use mathlib.Core.Path.{_∙_}
 use borrow.Author.Needs.{needs}
 use Rattle.formats.proofs.read.Statement.{statement}

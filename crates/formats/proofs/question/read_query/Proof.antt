@@ -3,8 +3,8 @@ use native.Mathlib.Omega.{arith}
 use mathlib.Core.Path.{_∙_}
 use lib.ListN.{length-set}
 use Rattle.semantics.specs.Formats.{query, readQuery}
-use Rattle.formats.specs.Layout.{aritiesIn}
-use Rattle.formats.proofs.Finishing.{finish-is}
+use Rattle.book.specs.BookLayout.{aritiesIn}
+use Rattle.reader.proofs.Finishing.{finish-is}
 use Rattle.formats.proofs.QueryParts.{query-fills, first-stored, second-stored, stored-long}
 use borrow.Author.Needs.{needs}
 use Rattle.formats.proofs.question.read_query.Statement.{statement}

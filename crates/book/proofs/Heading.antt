@@ -1,0 +1,60 @@
+-- The arities stand below place 16: what is written from there on leaves them alone. What a block says of predicate p is what the list of
+-- its arities says.
+use mathlib.Core.Path.{_≡_, sym, _∙_}
+use mathlib.Core.Logic.{inl}
+use mathlib.Core.List.{List}
+use Prim.Native.Nat.{ℕ, _+_, _≤_, _<_}
+use native.Mathlib.Omega.{arith}
+use lib.ListN.{length, getD}
+use Rattle.words.proofs.Tabulate.{tabulate-length, tabulate-at}
+use Rattle.reader.specs.Layout.{Kept, Fills}
+use Rattle.book.specs.BookLayout.{Header, aritiesIn, nameLayout, callLayout, ruleLayout}
+use Rattle.reader.specs.declared.Cursor.{Cursor}
+use Rattle.reader.proofs.Section.{entries-same}
+
+pub arities-length : (b : List ℕ) → length (aritiesIn b) ≡ getD b 0 0
+arities-length b = tabulate-length (getD b 0 0) (λ (i : ℕ). getD b (8 + i) 0)
+
+pub arity-at : (b : List ℕ) (p : ℕ) → p < getD b 0 0 → getD (aritiesIn b) p 0 ≡ getD b (8 + p) 0
+arity-at b p l = tabulate-at (getD b 0 0) (λ (i : ℕ). getD b (8 + i) 0) 0 p l
+
+-- two blocks with the same number of predicates and the same arities
+module _ (b b′ : List ℕ) (e : getD b′ 0 0 ≡ getD b 0 0) (same : (i : ℕ) → 8 ≤ i → i < 16 → getD b′ i 0 ≡ getD b i 0) where
+  pub arities-same : getD b 0 0 ≤ 8 → aritiesIn b′ ≡ aritiesIn b
+  arities-same few = rw e (entries-same b b′ 8 (getD b 0 0) (λ i l₁ l₂. same i l₁ (omega arith)))
+
+  pub header-same : Header b → Header b′
+  header-same h = record {
+    some = rw e (h .some);
+    few = rw e (h .few);
+    each = λ p m. let m′ : p < getD b 0 0 = rw e at m in rw (same (8 + p) (omega arith) (omega (arith, h .few))) (h .each p m′);
+  }
+
+pub arities-kept : {from to : ℕ} {b b′ : List ℕ} → Kept from to b b′ → 16 ≤ from → getD b 0 0 ≤ 8 → aritiesIn b′ ≡ aritiesIn b
+arities-kept {b = b} {b′ = b′} k l few = arities-same b b′ (k .same 0 (inl (omega arith))) (λ i l₁ l₂. k .same i (inl (omega arith))) few
+
+pub header-kept : {from to : ℕ} {b b′ : List ℕ} → Kept from to b b′ → 16 ≤ from → Header b → Header b′
+header-kept {b = b} {b′ = b′} k l h = header-same b b′ (k .same 0 (inl (omega arith))) (λ i l₁ l₂. k .same i (inl (omega arith))) h
+
+-- the predicate that a name has just been read for, and its arity
+module _ (at : ℕ) {bytes : List ℕ} {c r : Cursor} {b b′ : List ℕ} (header : Header b) (low : 16 ≤ at) (name : Fills (nameLayout (getD b 0 0)) at bytes c b b′ r) where
+  pub name-small : getD b′ at 0 < getD b 0 0
+  name-small = name .sized (header .some)
+
+  pub arity-kept : getD b′ (8 + getD b′ at 0) 0 ≡ getD b (8 + getD b′ at 0) 0
+  arity-kept = name .kept .same (8 + getD b′ at 0) (inl (omega (arith, name-small, header .few)))
+
+  pub arity-few : getD b′ (8 + getD b′ at 0) 0 ≤ 4
+  arity-few = rw arity-kept (header .each (getD b′ at 0) name-small)
+
+  pub arity-read : getD (aritiesIn b) (getD b′ at 0) 0 ≡ getD b′ (8 + getD b′ at 0) 0
+  arity-read = arity-at b (getD b′ at 0) name-small ∙ sym arity-kept
+
+-- a call or a rule read later, while the arities are still the same
+pub call-again : {from to : ℕ} {bytes : List ℕ} {c r : Cursor} {b₀ b b′ : List ℕ} (n at : ℕ) → Kept from to b₀ b → 16 ≤ from → Header b₀
+    → Fills (callLayout (aritiesIn b) n) at bytes c b b′ r → Fills (callLayout (aritiesIn b₀) n) at bytes c b b′ r
+call-again n at k l header h = rw (arities-kept k l (header .few)) at h
+
+pub rule-again : {from to : ℕ} {bytes : List ℕ} {c r : Cursor} {b₀ b b′ : List ℕ} (at : ℕ) → Kept from to b₀ b → 16 ≤ from → Header b₀
+    → Fills (ruleLayout (aritiesIn b)) at bytes c b b′ r → Fills (ruleLayout (aritiesIn b₀)) at bytes c b b′ r
+rule-again at k l header h = rw (arities-kept k l (header .few)) at h

@@ -1,0 +1,176 @@
+-- A rule: its parts, read one after the other into its place of the block, make the rule. What is written later lies apart from what was
+-- written before, so every part is still there at the end.
+use mathlib.Core.Path.{_≡_, refl, sym, ap, _∙_}
+use mathlib.Core.Logic.{inl, inr}
+use mathlib.Core.Bool.{Bool, true, false}
+use mathlib.Core.List.{List, [], _∷_}
+use Prim.Native.Nat.{ℕ, _+_, _-_, _≤_}
+use native.Mathlib.Decide.{decLe}
+use borrow.Author.Tests.{le-leb, lt-leb}
+use lib.Dec.{leb}
+use native.Mathlib.Omega.{arith}
+use lib.ListN.{getD}
+use Rattle.semantics.specs.RuleSet.{Rule}
+use Rattle.semantics.specs.Reader.{Reader, onward, _>>=_, byte, ensure, times}
+use Rattle.semantics.specs.Formats.{named, pure, atom, call, body}
+use Rattle.block.specs.Layout.{ruleIn}
+use Rattle.reader.specs.Cursor.{Yields, rangedByte}
+use Rattle.reader.specs.Layout.{Layout, Kept, Fills, many}
+use Rattle.book.specs.BookLayout.{countLayout, nameLayout, pureLayout, atomLayout, callLayout, Header, aritiesIn, Body, ruleLayout}
+use Rattle.reader.specs.declared.Cursor.{Cursor}
+use Rattle.book.proofs.Heading.{arities-length, arities-kept, arity-few, arity-read}
+use Rattle.reader.proofs.Chain.{chain, done, become, alike, turn}
+use Rattle.reader.proofs.Counting.{counted-read}
+use Rattle.reader.proofs.Keep.{kept-both}
+use Rattle.book.proofs.Locals.{pure-local, atom-local}
+use Rattle.reader.proofs.Section.{pass, many-local}
+
+module _ (n at : ℕ) {bytes : List ℕ} {c c₁ c₂ c₃ c₄ c₅ : Cursor} {b b₁ b₂ b₃ b₄ b₅ : List ℕ}
+    (count₁ : Fills (countLayout 0 8) (at + 2) bytes c b b₁ c₁)
+    (pures : Fills (many (getD b₁ (at + 2) 0) (pureLayout n)) (at + 8) bytes c₁ b₁ b₂ c₂)
+    (count₂ : Fills (countLayout 0 4) (at + 3) bytes c₂ b₂ b₃ c₃)
+    (atoms : Fills (many (getD b₃ (at + 3) 0) (atomLayout n)) (at + 32) bytes c₃ b₃ b₄ c₄)
+    (count₃ : Fills (countLayout 0 3) (at + 4) bytes c₄ b₄ b₅ c₅) where
+  -- up to the calls
+  pub kept₀₅ : Kept (at + 2) (at + 72) b b₅
+  kept₀₅ =
+      let few₁ = count₁ .sized .high in
+      let few₂ = count₂ .sized .high in
+      let k₂ = kept-both (at + 2) (at + 72) (count₁ .kept) (pures .kept) (omega arith) (omega arith) (omega arith) (omega arith) in
+      let k₃ = kept-both (at + 2) (at + 72) k₂ (count₂ .kept) (omega arith) (omega arith) (omega arith) (omega arith) in
+      let k₄ = kept-both (at + 2) (at + 72) k₃ (atoms .kept) (omega arith) (omega arith) (omega arith) (omega arith) in
+      kept-both (at + 2) (at + 72) k₄ (count₃ .kept) (omega arith) (omega arith) (omega arith) (omega arith)
+
+module _ (n at : ℕ) {bytes : List ℕ} {c c₁ c₂ c₃ c₄ c₅ c₆ : Cursor} {b b₁ b₂ b₃ b₄ b₅ b₆ : List ℕ} (header : Header b) (low : 16 ≤ at)
+    (count₁ : Fills (countLayout 0 8) (at + 2) bytes c b b₁ c₁)
+    (pures : Fills (many (getD b₁ (at + 2) 0) (pureLayout n)) (at + 8) bytes c₁ b₁ b₂ c₂)
+    (count₂ : Fills (countLayout 0 4) (at + 3) bytes c₂ b₂ b₃ c₃)
+    (atoms : Fills (many (getD b₃ (at + 3) 0) (atomLayout n)) (at + 32) bytes c₃ b₃ b₄ c₄)
+    (count₃ : Fills (countLayout 0 3) (at + 4) bytes c₄ b₄ b₅ c₅)
+    (calls : Fills (many (getD b₅ (at + 4) 0) (callLayout (aritiesIn b₅) n)) (at + 56) bytes c₅ b₅ b₆ c₆) where
+  -- from each place on, nothing before it is written
+  kept₄₆ : Kept (at + 4) (at + 72) b₄ b₆
+  kept₄₆ = kept-both (at + 4) (at + 72) (count₃ .kept) (calls .kept) (omega arith) (omega arith) (omega arith) (omega (arith, count₃ .sized .high))
+
+  kept₃₆ : Kept (at + 4) (at + 72) b₃ b₆
+  kept₃₆ = kept-both (at + 4) (at + 72) (atoms .kept) kept₄₆ (omega arith) (omega (arith, count₂ .sized .high)) (omega arith) (omega arith)
+
+  kept₂₆ : Kept (at + 3) (at + 72) b₂ b₆
+  kept₂₆ = kept-both (at + 3) (at + 72) (count₂ .kept) kept₃₆ (omega arith) (omega arith) (omega arith) (omega arith)
+
+  kept₁₆ : Kept (at + 3) (at + 72) b₁ b₆
+  kept₁₆ = kept-both (at + 3) (at + 72) (pures .kept) kept₂₆ (omega arith) (omega (arith, count₁ .sized .high)) (omega arith) (omega arith)
+
+  kept₀₆ : Kept (at + 2) (at + 72) b b₆
+  kept₀₆ =
+      kept-both (at + 2) (at + 72) (kept₀₅ n at count₁ pures count₂ atoms count₃) (calls .kept) (omega arith) (omega arith) (omega arith)
+      (omega (arith, count₃ .sized .high))
+
+  m₁ : getD b₆ (at + 2) 0 ≡ getD b₁ (at + 2) 0
+  m₁ = kept₁₆ .same (at + 2) (inl (omega arith))
+
+  m₂ : getD b₆ (at + 3) 0 ≡ getD b₃ (at + 3) 0
+  m₂ = kept₃₆ .same (at + 3) (inl (omega arith))
+
+  m₃ : getD b₆ (at + 4) 0 ≡ getD b₅ (at + 4) 0
+  m₃ = calls .kept .same (at + 4) (inl (omega arith))
+
+  -- the conditions and the atoms lie apart from what is written after them
+  abbrev Stays : {A : Type 0} → Layout A → ℕ → List ℕ → List ℕ → Type 0
+  Stays layout from x y = (layout .held y from ≡ layout .held x from) × layout .Sized y from
+
+  pures-stay : Stays (many (getD b₁ (at + 2) 0) (pureLayout n)) (at + 8) b₂ b₆
+  pures-stay =
+      let few = count₁ .sized .high in
+      let local = many-local (getD b₁ (at + 2) 0) (pureLayout n) (pure-local n) in
+      let layout = many (getD b₁ (at + 2) 0) (pureLayout n) in
+      let s₃ = pass layout local (at + 8) (count₂ .kept) (omega arith) (inr (omega arith)) (pures .sized) in
+      let s₄ = pass layout local (at + 8) (atoms .kept) (omega arith) (inl (omega arith)) (s₃ .1) in
+      let s₅ = pass layout local (at + 8) (count₃ .kept) (omega arith) (inr (omega arith)) (s₄ .1) in
+      let s₆ = pass layout local (at + 8) (calls .kept) (omega arith) (inl (omega arith)) (s₅ .1) in
+      (s₆ .0 ∙ s₅ .0 ∙ s₄ .0 ∙ s₃ .0, s₆ .1)
+
+  atoms-stay : Stays (many (getD b₃ (at + 3) 0) (atomLayout n)) (at + 32) b₄ b₆
+  atoms-stay =
+      let few = count₂ .sized .high in
+      let local = many-local (getD b₃ (at + 3) 0) (atomLayout n) (atom-local n) in
+      let layout = many (getD b₃ (at + 3) 0) (atomLayout n) in
+      let s₅ = pass layout local (at + 32) (count₃ .kept) (omega arith) (inr (omega arith)) (atoms .sized) in
+      let s₆ = pass layout local (at + 32) (calls .kept) (omega arith) (inl (omega arith)) (s₅ .1) in
+      (s₆ .0 ∙ s₅ .0, s₆ .1)
+
+  arities-stay : aritiesIn b₅ ≡ aritiesIn b
+  arities-stay = arities-kept (kept₀₅ n at count₁ pures count₂ atoms count₃) (omega arith) (header .few)
+
+  rule-stays : _≡_ {A = Rule} (record {
+    head = getD b at 0;
+    bound = getD b (at + 1) 0;
+    pures = many (getD b₁ (at + 2) 0) (pureLayout n) .held b₂ (at + 8);
+    points-to = many (getD b₃ (at + 3) 0) (atomLayout n) .held b₄ (at + 32);
+    calls = many (getD b₅ (at + 4) 0) (callLayout (aritiesIn b₅) n) .held b₆ (at + 56);
+  }) (ruleIn b₆ at)
+  rule-stays = rw (m₁, m₂, m₃, kept₀₆ .same at (inl (omega arith)), kept₀₆ .same (at + 1) (inl (omega arith)), pures-stay .0, atoms-stay .0)
+
+  called : Yields (times (getD b₅ (at + 4) 0) (call (aritiesIn b) n)) bytes c₅ c₆ (many (getD b₅ (at + 4) 0) (callLayout (aritiesIn b₅) n) .held b₆ (at + 56))
+  called = turn (ap (λ (arities : List ℕ). times (getD b₅ (at + 4) 0) (call arities n)) arities-stay) (calls .reads)
+
+  pub body-fills : Body at n bytes c b b₆ c₆
+  body-fills = record {
+    reads =
+        become rule-stays
+        (chain _ (counted-read 1 2 8 (pure n) (count₁ .reads) (pures .reads))
+        (chain _ (counted-read 1 2 4 (atom n) (count₂ .reads) (atoms .reads))
+        (chain _ (counted-read 1 2 3 (call (aritiesIn b) n) (count₃ .reads) called) (done bytes c₆ _))));
+    sized = record {
+      pures = rw m₁ (count₁ .sized .high);
+      atoms = rw m₂ (count₂ .sized .high);
+      fields = rw m₂ (atoms-stay .1);
+      calls = rw m₃ (count₃ .sized .high);
+      called = rw m₃ (calls .sized);
+    };
+    kept = kept₀₆;
+  }
+
+-- Head and bound variables are at most 8 together: the test of the definition, and the one on the bound variables alone.
+same-test : (arity b : ℕ) → arity ≤ 8 → leb (arity + b) 8 ≡ leb b (8 - arity)
+same-test arity b few = go (decLe (arity + b) 8)
+  where
+    go : Dec (arity + b ≤ 8) → leb (arity + b) 8 ≡ leb b (8 - arity)
+    go (yes l) = le-leb (arity + b) 8 l ∙ sym (le-leb b (8 - arity) (omega arith))
+    go (no l) = lt-leb (arity + b) 8 (omega arith) ∙ sym (lt-leb b (8 - arity) (omega arith))
+
+bound-read : {A : Type 0} {bytes : List ℕ} {c c₁ c₂ : Cursor} {v : ℕ} {a : A} (arity : ℕ) (next : ℕ → ℕ → Reader A) → arity ≤ 8
+    → Yields (rangedByte 1 2 0 (8 - arity)) bytes c c₁ v → Yields (next v (arity + v)) bytes c₁ c₂ a
+    → Yields (_>>=_ (byte 1) (λ b. _>>=_ (ensure (leb (arity + b) 8) 2 (arity + b)) (next b))) bytes c c₂ a
+bound-read {A} arity next few h k = alike _ same (chain (λ b. next b (arity + b)) h k)
+  where
+    tested : (t : Bool) (b : ℕ) (bytes : List ℕ) → onward (ensure t 2 (arity + b) bytes) (next b) ≡ onward (ensure t 2 b bytes) (λ b. next b (arity + b))
+    tested true b bytes = refl
+    tested false b bytes = refl
+
+    same : (bytes : List ℕ) → onward (byte 1 bytes) (λ b. _>>=_ (ensure (leb (arity + b) 8) 2 (arity + b)) (next b))
+        ≡ onward (rangedByte 1 2 0 (8 - arity) bytes) (λ b. next b (arity + b))
+    same [] = refl
+    same (b ∷ bytes) = rw (le-leb 0 b (omega arith), same-test arity b few) (tested (leb b (8 - arity)) b bytes)
+
+same-body : {arities arities′ : List ℕ} {h h′ n n′ : ℕ} (bound : ℕ) → arities ≡ arities′ → h ≡ h′ → n ≡ n′ → body arities h bound n ≡ body arities′ h′ bound n′
+same-body bound p q r = rw (p, q, r)
+
+pub rule-fills : (at : ℕ) {bytes : List ℕ} {c c₁ c₂ c₃ : Cursor} {b b₁ b₂ b₃ : List ℕ} → Header b → 16 ≤ at → Fills (nameLayout (getD b 0 0)) at bytes c b b₁ c₁
+    → Fills (countLayout 0 (8 - getD b₁ (8 + getD b₁ at 0) 0)) (at + 1) bytes c₁ b₁ b₂ c₂
+    → Body at (getD b₁ (8 + getD b₁ at 0) 0 + getD b₂ (at + 1) 0) bytes c₂ b₂ b₃ c₃ → Fills (ruleLayout (aritiesIn b)) at bytes c b b₃ c₃
+rule-fills at {bytes} {c₂ = c₂} {c₃ = c₃} {b} {b₁} {b₂} {b₃} header low name bound rest =
+    let few : getD b₁ (8 + getD b₁ at 0) 0 ≤ 4 = arity-few at header low name in
+    let k = kept-both at (at + 72) (name .kept) (bound .kept) (omega arith) (omega arith) (omega arith) (omega arith) in
+    let e : aritiesIn b₂ ≡ aritiesIn b = arities-kept k low (header .few) in
+    let h : getD b₂ at 0 ≡ getD b₁ at 0 = bound .kept .same at (inl (omega arith)) in
+    let n : getD b₁ (8 + getD b₁ at 0) 0 ≡ getD (aritiesIn b) (getD b₁ at 0) 0 = sym (arity-read at header low name) in
+    record {
+      reads =
+          chain _ (turn (ap named (sym (arities-length b))) (name .reads))
+          (bound-read (getD (aritiesIn b) (getD b₁ at 0) 0) (body (aritiesIn b) (getD b₁ at 0)) (rw (← n) (omega arith))
+          (turn (ap (λ (m : ℕ). rangedByte 1 2 0 (8 - m)) n) (bound .reads))
+          (turn (same-body (getD b₂ (at + 1) 0) e h (ap (λ (m : ℕ). m + getD b₂ (at + 1) 0) n)) (rest .reads)));
+      sized = rest .sized;
+      kept = kept-both at (at + 72) k (rest .kept) (omega arith) (omega arith) (omega arith) (omega arith);
+    }

@@ -1,0 +1,283 @@
+// The book, into a block of 1,168 bytes: places as the layout of the block has them. `n` is the number of a rule's variables.
+use block::ARGUMENTS;
+use block::ARITIES;
+use block::ATOM_SIZE;
+use block::ATOMS;
+use block::BOUND;
+use block::CALL_SIZE;
+use block::CALLS;
+use block::FIELDS;
+use block::FIRST_ATOM;
+use block::FIRST_CALL;
+use block::FIRST_PURE;
+use block::FIRST_RULE;
+use block::LEFT;
+use block::PREDICATES;
+use block::PURE_SIZE;
+use block::PURES;
+use block::RIGHT;
+use block::RULE_SIZE;
+use block::RULES;
+use block::SIZE;
+use reader::Cursor;
+use reader::Ladder;
+use reader::bytes::below;
+use reader::bytes::byte;
+use reader::bytes::finish;
+use reader::bytes::ranged;
+use reader::bytes::stop;
+ghost use mathlib.Core.Path.{_≡_};
+ghost use Prim.Native.Nat.{_+_, _*_, _≤_, _<_};
+ghost use lib.ListN.{length};
+ghost use Rattle.reader.specs.Layout.{Fills, many};
+ghost use Rattle.book.specs.BookLayout.{countLayout, nameLayout, termLayout, pureLayout, atomLayout, aritiesIn, Header, callLayout, Body, ruleLayout, RuleSetFills, RulesRead};
+
+// The refusals of a book: it ends too soon, a count is out of range, a byte names nothing, bytes follow.
+const ENDS: u8 = 1;
+
+const RANGE: u8 = 2;
+
+const NAME: u8 = 3;
+
+const MORE: u8 = 4;
+
+// The ranges.
+const MOST_PREDICATES: u8 = 8;
+
+const MOST_ARGUMENTS: u8 = 4;
+
+const MOST_RULES: u8 = 16;
+
+const MOST_VARIABLES: u8 = 8;
+
+const MOST_PURES: u8 = 8;
+
+const MOST_ATOMS: u8 = 4;
+
+const MOST_FIELDS: u8 = 4;
+
+const MOST_CALLS: u8 = 3;
+
+// The kinds of a pure condition: equal and unequal.
+const KINDS: u8 = 2;
+
+// Nil as a term, in the book and in the block.
+const NIL: u8 = 255;
+
+const NIL_HELD: u8 = 128;
+
+// A count, from `least` to `most`.
+fn count(s: &[u8], c: Cursor, block: &mut [u8], at: usize, least: u8, most: u8) -> Cursor
+    requires { ⌜ (least ≤ most) × (at < length (now block)) ⌝ }
+    ensures { λ r. ⌜ Fills (countLayout least most) at (now (s .entry)) c (now (block .entry)) (now (block .exit)) r ⌝ }
+{
+    let e = ranged(s, c, ENDS, RANGE, least, most);
+    block[at] = e.value;
+    let next = e.cursor;
+    next
+}
+
+// One of `n` predicates or variables.
+fn named(s: &[u8], c: Cursor, block: &mut [u8], at: usize, n: u8) -> Cursor
+    requires { ⌜ at < length (now block) ⌝ }
+    ensures { λ r. ⌜ Fills (nameLayout n) at (now (s .entry)) c (now (block .entry)) (now (block .exit)) r ⌝ }
+{
+    let e = below(s, c, ENDS, NAME, n);
+    block[at] = e.value;
+    let next = e.cursor;
+    next
+}
+
+// A term of a rule with `n` variables. In the block 128 stands for nil.
+fn term(s: &[u8], c: Cursor, block: &mut [u8], at: usize, n: u8) -> Cursor
+    requires { ⌜ (n ≤ 8) × (at < length (now block)) ⌝ }
+    ensures { λ r. ⌜ Fills (termLayout n) at (now (s .entry)) c (now (block .entry)) (now (block .exit)) r ⌝ }
+{
+    let b = byte(s, c, ENDS);
+    let v = b.value;
+    let next = b.cursor;
+    if v == NIL {
+        block[at] = NIL_HELD;
+        return next;
+    }
+    if v < n {
+        block[at] = v;
+        return next;
+    }
+    stop(next, NAME)
+}
+
+// `count` terms.
+fn terms(s: &[u8], c: Cursor, block: &mut [u8], from: usize, count: u8, n: u8) -> Cursor
+    requires { ⌜ (n ≤ 8) × (from + count ≤ length (now block)) ⌝ }
+    ensures { λ r. ⌜ Fills (many count (termLayout n)) from (now (s .entry)) c (now (block .entry)) (now (block .exit)) r ⌝ }
+{
+    let most = count as usize;
+    let mut next = c;
+    let mut k: usize = 0;
+    while k < most {
+        next = term(s, next, block, from + k, n);
+        k += 1;
+    }
+    next
+}
+
+// A pure condition: its kind and two terms.
+fn pure(s: &[u8], c: Cursor, block: &mut [u8], at: usize, n: u8) -> Cursor
+    requires { ⌜ (n ≤ 8) × (at + 3 ≤ length (now block)) ⌝ }
+    ensures { λ r. ⌜ Fills (pureLayout n) at (now (s .entry)) c (now (block .entry)) (now (block .exit)) r ⌝ }
+{
+    let left = named(s, c, block, at, KINDS);
+    let right = term(s, left, block, at + LEFT, n);
+    term(s, right, block, at + RIGHT, n)
+}
+
+// `count` pure conditions.
+fn pures(s: &[u8], c: Cursor, block: &mut [u8], from: usize, count: u8, n: u8) -> Cursor
+    requires { ⌜ (n ≤ 8) × (from + 3 * count ≤ length (now block)) ⌝ }
+    ensures { λ r. ⌜ Fills (many count (pureLayout n)) from (now (s .entry)) c (now (block .entry)) (now (block .exit)) r ⌝ }
+{
+    let most = count as usize;
+    let mut next = c;
+    let mut k: usize = 0;
+    while k < most {
+        next = pure(s, next, block, from + PURE_SIZE * k, n);
+        k += 1;
+    }
+    next
+}
+
+// A points-to atom: its address, a variable, and 0 to 4 fields.
+fn atom(s: &[u8], c: Cursor, block: &mut [u8], at: usize, n: u8) -> Cursor
+    requires { ⌜ (n ≤ 8) × (at + 6 ≤ length (now block)) ⌝ }
+    ensures { λ r. ⌜ Fills (atomLayout n) at (now (s .entry)) c (now (block .entry)) (now (block .exit)) r ⌝ }
+{
+    let number = named(s, c, block, at, n);
+    let fields = count(s, number, block, at + SIZE, 0, MOST_FIELDS);
+    let most = block[at + SIZE];
+    terms(s, fields, block, at + FIELDS, most, n)
+}
+
+// `count` points-to atoms.
+fn atoms(s: &[u8], c: Cursor, block: &mut [u8], from: usize, count: u8, n: u8) -> Cursor
+    requires { ⌜ (n ≤ 8) × (from + 6 * count ≤ length (now block)) ⌝ }
+    ensures { λ r. ⌜ Fills (many count (atomLayout n)) from (now (s .entry)) c (now (block .entry)) (now (block .exit)) r ⌝ }
+{
+    let most = count as usize;
+    let mut next = c;
+    let mut k: usize = 0;
+    while k < most {
+        next = atom(s, next, block, from + ATOM_SIZE * k, n);
+        k += 1;
+    }
+    next
+}
+
+// A call: a predicate, and a term for each of its arguments.
+fn call(s: &[u8], c: Cursor, block: &mut [u8], at: usize, n: u8) -> Cursor
+    requires { ⌜ (n ≤ 8) × Header (now block) × (16 ≤ at) × (at + 5 ≤ length (now block)) ⌝ }
+    ensures { λ r. ⌜ Fills (callLayout (aritiesIn (now (block .entry))) n) at (now (s .entry)) c (now (block .entry)) (now (block .exit)) r ⌝ }
+{
+    let predicates = block[PREDICATES];
+    let arguments = named(s, c, block, at, predicates);
+    let predicate = block[at] as usize;
+    let arity = block[ARITIES + predicate];
+    terms(s, arguments, block, at + ARGUMENTS, arity, n)
+}
+
+// `count` calls.
+fn calls(s: &[u8], c: Cursor, block: &mut [u8], from: usize, count: u8, n: u8) -> Cursor
+    requires { ⌜ (n ≤ 8) × Header (now block) × (16 ≤ from) × (from + 5 * count ≤ length (now block)) ⌝ }
+    ensures { λ r. ⌜ Fills (many count (callLayout (aritiesIn (now (block .entry))) n)) from (now (s .entry)) c (now (block .entry)) (now (block .exit)) r ⌝ }
+{
+    let most = count as usize;
+    let mut next = c;
+    let mut k: usize = 0;
+    while k < most {
+        next = call(s, next, block, from + CALL_SIZE * k, n);
+        k += 1;
+    }
+    next
+}
+
+// The rest of a rule over `n` variables: its pure conditions, its points-to atoms and its calls.
+fn body(s: &[u8], c: Cursor, block: &mut [u8], at: usize, n: u8) -> Cursor
+    requires { ⌜ (n ≤ 8) × Header (now block) × (16 ≤ at) × (at + 72 ≤ length (now block)) ⌝ }
+    ensures { λ r. ⌜ Body at n (now (s .entry)) c (now (block .entry)) (now (block .exit)) r ⌝ }
+{
+    let c = count(s, c, block, at + PURES, 0, MOST_PURES);
+    let k = block[at + PURES];
+    let c = pures(s, c, block, at + FIRST_PURE, k, n);
+    let c = count(s, c, block, at + ATOMS, 0, MOST_ATOMS);
+    let k = block[at + ATOMS];
+    let c = atoms(s, c, block, at + FIRST_ATOM, k, n);
+    let c = count(s, c, block, at + CALLS, 0, MOST_CALLS);
+    let k = block[at + CALLS];
+    calls(s, c, block, at + FIRST_CALL, k, n)
+}
+
+// A rule: head, number of bound variables, and body. Head and bound variables are at most 8 together.
+fn rule(s: &[u8], c: Cursor, block: &mut [u8], at: usize) -> Cursor
+    requires { ⌜ Header (now block) × (16 ≤ at) × (at + 72 ≤ length (now block)) ⌝ }
+    ensures { λ r. ⌜ Fills (ruleLayout (aritiesIn (now (block .entry)))) at (now (s .entry)) c (now (block .entry)) (now (block .exit)) r ⌝ }
+{
+    let predicates = block[PREDICATES];
+    let c = named(s, c, block, at, predicates);
+    let head = block[at] as usize;
+    let arity = block[ARITIES + head];
+    let c = count(s, c, block, at + BOUND, 0, MOST_VARIABLES - arity);
+    let bound = block[at + BOUND];
+    body(s, c, block, at, arity + bound)
+}
+
+// `count` rules.
+fn rules(s: &[u8], c: Cursor, block: &mut [u8], from: usize, count: u8) -> Cursor
+    requires { ⌜ Header (now block) × (16 ≤ from) × (from + 72 * count ≤ length (now block)) ⌝ }
+    ensures { λ r. ⌜ Fills (many count (ruleLayout (aritiesIn (now (block .entry))))) from (now (s .entry)) c (now (block .entry)) (now (block .exit)) r ⌝ }
+{
+    let most = count as usize;
+    let mut next = c;
+    let mut k: usize = 0;
+    while k < most {
+        next = rule(s, next, block, from + RULE_SIZE * k);
+        k += 1;
+    }
+    next
+}
+
+// The numbers of arguments of the predicates.
+fn arities(s: &[u8], c: Cursor, block: &mut [u8], predicates: u8) -> Cursor
+    requires { ⌜ 8 + predicates ≤ length (now block) ⌝ }
+    ensures { λ r. ⌜ Fills (many predicates (countLayout 0 4)) 8 (now (s .entry)) c (now (block .entry)) (now (block .exit)) r ⌝ }
+{
+    let most = predicates as usize;
+    let mut next = c;
+    let mut k: usize = 0;
+    while k < most {
+        next = count(s, next, block, ARITIES + k, 0, MOST_ARGUMENTS);
+        k += 1;
+    }
+    next
+}
+
+// The whole rule set: the predicates' numbers of arguments, and the rules.
+fn rule_set(s: &[u8], c: Cursor, block: &mut [u8]) -> Cursor
+    requires { ⌜ length (now block) ≡ 1168 ⌝ }
+    ensures { λ r. ⌜ RuleSetFills (now (s .entry)) c (now (block .entry)) (now (block .exit)) r ⌝ }
+{
+    let c = count(s, c, block, PREDICATES, 1, MOST_PREDICATES);
+    let k = block[PREDICATES];
+    let c = arities(s, c, block, k);
+    let c = count(s, c, block, RULES, 0, MOST_RULES);
+    let k = block[RULES];
+    rules(s, c, block, FIRST_RULE, k)
+}
+
+// The book, into a block of 1,168 bytes.
+pub fn read_rules(book: &[u8], block: &mut [u8]) -> Ladder
+    requires { ⌜ length (now block) ≡ 1168 ⌝ }
+    ensures { λ r. ⌜ RulesRead (now (book .entry)) (now (block .entry)) (now (block .exit)) r ⌝ }
+{
+    let c = rule_set(book, Cursor::At(0), block);
+    finish(book, c, MORE)
+}

@@ -1,0 +1,22 @@
+-- At the end of the reading: what the cursor says of the bytes that are left is what the definition says.
+use mathlib.Core.Path.{_≡_, refl, ap, _∙_}
+use mathlib.Core.List.{List, [], _∷_}
+use Prim.Native.Nat.{ℕ}
+use lib.ListN.{drop}
+use Rattle.semantics.specs.Reader.{Got, got, Reader, all}
+use Rattle.reader.specs.Cursor.{upto, Yields}
+use Rattle.reader.specs.Answer.{resultOf, unlessMore, finished}
+use Rattle.reader.specs.declared.Cursor.{Cursor}
+use Rattle.reader.specs.declared.Cursor.the-variants.{At, Fault}
+
+all-rest : {A : Type 0} (more : ℕ) (a : A) (rest : List ℕ) → all more (got a rest) ≡ resultOf (unlessMore more rest) a
+all-rest more a [] = refl
+all-rest more a (b ∷ rest) = refl
+
+all-upto : {A : Type 0} (more : ℕ) (bytes : List ℕ) (c : Cursor) (a : A) → all more (upto bytes c a) ≡ resultOf (finished more bytes c) a
+all-upto more bytes (At at) a = all-rest more a (drop at bytes)
+all-upto more bytes (Fault n) a = refl
+
+pub finish-is : {A : Type 0} {bytes : List ℕ} {c : Cursor} {a : A} (more : ℕ) (read : Reader A) → Yields read bytes (At 0) c a
+    → all more (read bytes) ≡ resultOf (finished more bytes c) a
+finish-is {A} {bytes} {c} {a} more read h = ap (λ (g : Got A). all more g) (h .is) ∙ all-upto more bytes c a

@@ -1,0 +1,37 @@
+-- What a block keeps: after a store, after several steps, and for an entry that lies apart from what was written.
+use mathlib.Core.Path.{_≡_, refl, sym, ap, _∙_}
+use mathlib.Core.Logic.{_⊎_, inl, inr, ⊎-elim, _≢_}
+use mathlib.Core.List.{List}
+use Prim.Native.Nat.{ℕ, _+_, _≤_, _<_}
+use native.Mathlib.Omega.{arith}
+use lib.ListN.{length, getD, set, length-set}
+use lib.Seq.{getD-set-same, getD-set-other}
+use Rattle.semantics.specs.Reader.{Reader}
+use Rattle.reader.specs.Cursor.{Yields}
+use Rattle.reader.specs.Layout.{Kept, Fills, single}
+use Rattle.reader.specs.declared.Cursor.{Cursor}
+use Rattle.reader.proofs.Chain.{become}
+
+pub kept-none : (from to : ℕ) (b : List ℕ) → Kept from to b b
+kept-none from to b = record { long = refl; same = λ i h. refl }
+
+pub kept-set : (b : List ℕ) (at v : ℕ) → Kept at (at + 1) b (set b at v)
+kept-set b at v = record { long = length-set b at v; same = λ i h. getD-set-other b at i v 0 (apart i h) }
+  where
+    apart : (i : ℕ) → (i < at) ⊎ (at + 1 ≤ i) → i ≢ at
+    apart i h e = ⊎-elim (λ l. omega arith) (λ l. omega arith) h
+
+-- two steps, within one range
+pub kept-both : {f t f₁ t₁ : ℕ} {b b₁ b₂ : List ℕ} (from to : ℕ) → Kept f t b b₁ → Kept f₁ t₁ b₁ b₂
+    → from ≤ f → t ≤ to → from ≤ f₁ → t₁ ≤ to → Kept from to b b₂
+kept-both from to h k l₁ l₂ l₃ l₄ = record {
+  long = k .long ∙ h .long;
+  same = λ i o. k .same i (⊎-elim (λ l. inl (omega arith)) (λ l. inr (omega arith)) o) ∙ h .same i (⊎-elim (λ l. inl (omega arith)) (λ l. inr (omega arith)) o);
+}
+
+-- a number that was read and then stored
+pub stored : {A : Type 0} {read : Reader A} {bytes : List ℕ} {c r : Cursor} (value : ℕ → A) (In : ℕ → Type 0) (b : List ℕ) (at v : ℕ) → at < length b
+    → Yields read bytes c r (value v) → In v → Fills (single read value In) at bytes c b (set b at v) r
+stored value In b at v l h k =
+    let e : v ≡ getD (set b at v) at 0 = sym (getD-set-same b at v 0 l) in
+    record { reads = become (ap value e) h; sized = rw e at k; kept = kept-set b at v }

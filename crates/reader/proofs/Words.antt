@@ -1,0 +1,34 @@
+-- Numbers of four bytes.
+use mathlib.Core.Path.{_≡_}
+use mathlib.Core.List.{List, [], _∷_}
+use Prim.Native.Nat.{ℕ, _+_, _*_}
+use native.Mathlib.Omega.{arith}
+use Rattle.semantics.specs.Lists.{digits}
+use Rattle.semantics.specs.Reader.{give, byte, word}
+use Rattle.semantics.specs.Formats.{asRead, value}
+use Rattle.reader.specs.Cursor.{Yields}
+use Rattle.reader.specs.declared.Cursor.{Cursor}
+use Rattle.reader.proofs.Chain.{chain, done, become}
+use Rattle.reader.specs.Layout.{valueLayout, Any}
+use Rattle.reader.proofs.Section.{Local, single-local}
+use Rattle.reader.proofs.Counting.{times-none, times-more}
+
+word-value : (x y z w : ℕ) → digits 256 (x ∷ y ∷ z ∷ w ∷ []) ≡ x + 256 * y + 65536 * (z + 256 * w)
+unfolding digits
+word-value x y z w = omega arith
+
+pub word-read : {bytes : List ℕ} {c c₁ c₂ c₃ c₄ : Cursor} {x y z w : ℕ} (short : ℕ) → Yields (byte short) bytes c c₁ x → Yields (byte short) bytes c₁ c₂ y
+    → Yields (byte short) bytes c₂ c₃ z → Yields (byte short) bytes c₃ c₄ w → Yields (word short) bytes c c₄ (x + 256 * y + 65536 * (z + 256 * w))
+unfolding word
+word-read {bytes} {c} {c₄ = c₄} {x} {y} {z} {w} short h₁ h₂ h₃ h₄ =
+    let t₁ = times-more (byte short) 0 [] x (times-none (byte short) bytes c) h₁ in
+    let t₂ = times-more (byte short) 1 (x ∷ []) y t₁ h₂ in
+    let t₃ = times-more (byte short) 2 (x ∷ y ∷ []) z t₂ h₃ in
+    let t₄ = times-more (byte short) 3 (x ∷ y ∷ z ∷ []) w t₃ h₄ in
+    become (word-value x y z w) (chain (λ bs. give (digits 256 bs)) t₄ (done bytes c₄ _))
+
+pub value-read : {bytes : List ℕ} {c c₁ : Cursor} {v : ℕ} (short : ℕ) → Yields (word short) bytes c c₁ v → Yields (value short) bytes c c₁ (asRead v)
+value-read {bytes} {c₁ = c₁} short h = chain (λ v. give (asRead v)) h (done bytes c₁ _)
+
+pub value-local : (short : ℕ) → Local (valueLayout short)
+value-local short = single-local (value short) (λ v. v) Any

@@ -1,0 +1,35 @@
+-- The address that was read lies at its place; one that is not above the one before stops the cursor.
+use mathlib.Core.List.{[]}
+use native.Mathlib.Omega.{arith}
+use Rattle.reader.specs.Layout.{Any}
+use Rattle.reader.proofs.Keep.{stored, kept-set, kept-none}
+use Rattle.snapshot.proofs.HeapParts.{address-above, address-off}
+use borrow.Author.Needs.{needs}
+use Rattle.snapshot.proofs.address.Statement.{statement}
+use Rattle.snapshot.proofs.address.Tie as tie
+
+mul-heap : tie.Need-mul-heap
+mul-heap c = omega (arith, c .before .before .good .1 .1 .0)
+
+slice-write-heap : tie.Need-slice-write-heap
+slice-write-heap c = omega arith
+
+returns : tie.Need-returns
+returns c bytes =
+    let a = c .before .before .args in
+    record {
+      reads = λ c₀ y. stored (λ v. v) Any (a .heap .now) (a .at) (a .v) (c .before .before .pre) (address-above (a .low) y (c .if1 .taken)) tt .reads;
+      sized = tt;
+      kept = kept-set (a .heap .now) (a .at) (a .v);
+    }
+
+returns-2 : tie.Need-returns-2
+returns-2 c bytes =
+    let a = c .before .before .before .args in
+    record { reads = λ c₀ y. rw (c .stop .ensures) (address-off (a .low) _ y (c .before .if1 .left)); sized = tt; kept = kept-none _ _ _ }
+
+same-length : tie.Need-same-length
+same-length c = returns c [] .kept .long
+
+pub address-spec : {M : Type 1} → statement M
+address-spec = tie.close (tie.spec mul-heap slice-write-heap same-length returns (λ c κs. search needs) returns-2)
