@@ -29,8 +29,8 @@ pure-fills n at {bytes} {c₃ = c₃} {b} {b₁} {b₂} {b₃} kind left right =
       reads = rw (k, l) (chain _ (kind-read (kind .reads)) (chain _ (left .reads) (chain _ (right .reads) (done bytes c₃ _))));
       sized = tt;
       kept =
-          kept-both at (at + 3) (kept-both at (at + 3) (kind .kept) (left .kept) (omega arith) (omega arith) (omega arith) (omega arith)) (right .kept)
-          (omega arith) (omega arith) (omega arith) (omega arith);
+          kept-both at (at + 3) (kept-both at (at + 3) (kind .kept) (left .kept) (omega arith)) (right .kept)
+          (omega arith);
     }
 
 -- terms side by side, as the blocks have them
@@ -49,8 +49,8 @@ atom-fills n at {bytes} {c₃ = c₃} {b} {b₁} {b₂} {b₃} name count fields
           (chain _ (name .reads) (chain _ (counted-read 1 2 4 (term n) (count .reads) (fields .reads)) (done bytes c₃ _)));
       sized = rw m (count .sized .high);
       kept =
-          kept-both at (at + 6) (kept-both at (at + 6) (name .kept) (count .kept) (omega arith) (omega arith) (omega arith) (omega arith)) (fields .kept)
-          (omega arith) (omega arith) (omega arith) (omega (arith, count .sized .high));
+          kept-both at (at + 6) (kept-both at (at + 6) (name .kept) (count .kept) (omega arith)) (fields .kept)
+          (omega (arith, count .sized .high));
     }
 
 pub call-fills : (n at : ℕ) {bytes : List ℕ} {c c₁ c₂ : Cursor} {b b₁ b₂ : List ℕ} → Header b → 16 ≤ at → Fills (nameLayout (getD b 0 0)) at bytes c b b₁ c₁
@@ -65,5 +65,5 @@ call-fills n at {bytes} {c₂ = c₂} {b} {b₁} {b₂} header low name argument
       reads =
           rw (e, m, ← terms-held b₂ (at + 1) (getD b₁ (8 + getD b₁ at 0) 0), arities-length b) (chain _ (name .reads) (chain _ terms (done bytes c₂ _)));
       sized = record { name = rw e (omega (arith, header .few)); few = rw (e, m) few };
-      kept = kept-both at (at + 5) (name .kept) (arguments .kept) (omega arith) (omega arith) (omega arith) (omega arith);
+      kept = kept-both at (at + 5) (name .kept) (arguments .kept) (omega arith);
     }

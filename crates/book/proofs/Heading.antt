@@ -8,7 +8,7 @@ use native.Mathlib.Omega.{arith}
 use lib.ListN.{length, getD}
 use Rattle.words.proofs.Tabulate.{tabulate-length, tabulate-at}
 use Rattle.reader.specs.Layout.{Kept, Fills}
-use Rattle.book.specs.BookLayout.{Header, aritiesIn, nameLayout, callLayout, ruleLayout}
+use Rattle.book.specs.BookLayout.{Header, aritiesIn, nameLayout}
 use Rattle.reader.specs.declared.Cursor.{Cursor}
 use Rattle.reader.proofs.Section.{entries-same}
 
@@ -49,12 +49,3 @@ module _ (at : ℕ) {bytes : List ℕ} {c r : Cursor} {b b′ : List ℕ} (heade
 
   pub arity-read : getD (aritiesIn b) (getD b′ at 0) 0 ≡ getD b′ (8 + getD b′ at 0) 0
   arity-read = arity-at b (getD b′ at 0) name-small ∙ sym arity-kept
-
--- a call or a rule read later, while the arities are still the same
-pub call-again : {from to : ℕ} {bytes : List ℕ} {c r : Cursor} {b₀ b b′ : List ℕ} (n at : ℕ) → Kept from to b₀ b → 16 ≤ from → Header b₀
-    → Fills (callLayout (aritiesIn b) n) at bytes c b b′ r → Fills (callLayout (aritiesIn b₀) n) at bytes c b b′ r
-call-again n at k l header h = rw (arities-kept k l (header .few)) at h
-
-pub rule-again : {from to : ℕ} {bytes : List ℕ} {c r : Cursor} {b₀ b b′ : List ℕ} (at : ℕ) → Kept from to b₀ b → 16 ≤ from → Header b₀
-    → Fills (ruleLayout (aritiesIn b)) at bytes c b b′ r → Fills (ruleLayout (aritiesIn b₀)) at bytes c b b′ r
-rule-again at k l header h = rw (arities-kept k l (header .few)) at h

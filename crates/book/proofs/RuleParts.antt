@@ -36,10 +36,10 @@ module _ (n at : ℕ) {bytes : List ℕ} {c c₁ c₂ c₃ c₄ c₅ : Cursor} {
   kept₀₅ =
       let few₁ = count₁ .sized .high in
       let few₂ = count₂ .sized .high in
-      let k₂ = kept-both (at + 2) (at + 72) (count₁ .kept) (pures .kept) (omega arith) (omega arith) (omega arith) (omega arith) in
-      let k₃ = kept-both (at + 2) (at + 72) k₂ (count₂ .kept) (omega arith) (omega arith) (omega arith) (omega arith) in
-      let k₄ = kept-both (at + 2) (at + 72) k₃ (atoms .kept) (omega arith) (omega arith) (omega arith) (omega arith) in
-      kept-both (at + 2) (at + 72) k₄ (count₃ .kept) (omega arith) (omega arith) (omega arith) (omega arith)
+      let k₂ = kept-both (at + 2) (at + 72) (count₁ .kept) (pures .kept) (omega arith) in
+      let k₃ = kept-both (at + 2) (at + 72) k₂ (count₂ .kept) (omega arith) in
+      let k₄ = kept-both (at + 2) (at + 72) k₃ (atoms .kept) (omega arith) in
+      kept-both (at + 2) (at + 72) k₄ (count₃ .kept) (omega arith)
 
 module _ (n at : ℕ) {bytes : List ℕ} {c c₁ c₂ c₃ c₄ c₅ c₆ : Cursor} {b b₁ b₂ b₃ b₄ b₅ b₆ : List ℕ} (header : Header b) (low : 16 ≤ at)
     (count₁ : Fills (countLayout 0 8) (at + 2) bytes c b b₁ c₁)
@@ -50,21 +50,20 @@ module _ (n at : ℕ) {bytes : List ℕ} {c c₁ c₂ c₃ c₄ c₅ c₆ : Curs
     (calls : Fills (many (getD b₅ (at + 4) 0) (callLayout (aritiesIn b₅) n)) (at + 56) bytes c₅ b₅ b₆ c₆) where
   -- from each place on, nothing before it is written
   kept₄₆ : Kept (at + 4) (at + 72) b₄ b₆
-  kept₄₆ = kept-both (at + 4) (at + 72) (count₃ .kept) (calls .kept) (omega arith) (omega arith) (omega arith) (omega (arith, count₃ .sized .high))
+  kept₄₆ = kept-both (at + 4) (at + 72) (count₃ .kept) (calls .kept) (omega (arith, count₃ .sized .high))
 
   kept₃₆ : Kept (at + 4) (at + 72) b₃ b₆
-  kept₃₆ = kept-both (at + 4) (at + 72) (atoms .kept) kept₄₆ (omega arith) (omega (arith, count₂ .sized .high)) (omega arith) (omega arith)
+  kept₃₆ = kept-both (at + 4) (at + 72) (atoms .kept) kept₄₆ (omega (arith, count₂ .sized .high))
 
   kept₂₆ : Kept (at + 3) (at + 72) b₂ b₆
-  kept₂₆ = kept-both (at + 3) (at + 72) (count₂ .kept) kept₃₆ (omega arith) (omega arith) (omega arith) (omega arith)
+  kept₂₆ = kept-both (at + 3) (at + 72) (count₂ .kept) kept₃₆ (omega arith)
 
   kept₁₆ : Kept (at + 3) (at + 72) b₁ b₆
-  kept₁₆ = kept-both (at + 3) (at + 72) (pures .kept) kept₂₆ (omega arith) (omega (arith, count₁ .sized .high)) (omega arith) (omega arith)
+  kept₁₆ = kept-both (at + 3) (at + 72) (pures .kept) kept₂₆ (omega (arith, count₁ .sized .high))
 
   kept₀₆ : Kept (at + 2) (at + 72) b b₆
   kept₀₆ =
-      kept-both (at + 2) (at + 72) (kept₀₅ n at count₁ pures count₂ atoms count₃) (calls .kept) (omega arith) (omega arith) (omega arith)
-      (omega (arith, count₃ .sized .high))
+      kept-both (at + 2) (at + 72) (kept₀₅ n at count₁ pures count₂ atoms count₃) (calls .kept) (omega (arith, count₃ .sized .high))
 
   m₁ : getD b₆ (at + 2) 0 ≡ getD b₁ (at + 2) 0
   m₁ = kept₁₆ .same (at + 2) (inl (omega arith))
@@ -161,7 +160,7 @@ pub rule-fills : (at : ℕ) {bytes : List ℕ} {c c₁ c₂ c₃ : Cursor} {b b�
     → Body at (getD b₁ (8 + getD b₁ at 0) 0 + getD b₂ (at + 1) 0) bytes c₂ b₂ b₃ c₃ → Fills (ruleLayout (aritiesIn b)) at bytes c b b₃ c₃
 rule-fills at {bytes} {c₂ = c₂} {c₃ = c₃} {b} {b₁} {b₂} {b₃} header low name bound rest =
     let few : getD b₁ (8 + getD b₁ at 0) 0 ≤ 4 = arity-few at header low name in
-    let k = kept-both at (at + 72) (name .kept) (bound .kept) (omega arith) (omega arith) (omega arith) (omega arith) in
+    let k = kept-both at (at + 72) (name .kept) (bound .kept) (omega arith) in
     let e : aritiesIn b₂ ≡ aritiesIn b = arities-kept k low (header .few) in
     let h : getD b₂ at 0 ≡ getD b₁ at 0 = bound .kept .same at (inl (omega arith)) in
     let n : getD b₁ (8 + getD b₁ at 0) 0 ≡ getD (aritiesIn b) (getD b₁ at 0) 0 = sym (arity-read at header low name) in
@@ -172,5 +171,5 @@ rule-fills at {bytes} {c₂ = c₂} {c₃ = c₃} {b} {b₁} {b₂} {b₃} heade
           (turn (ap (λ (m : ℕ). rangedByte 1 2 0 (8 - m)) n) (bound .reads))
           (turn (same-body (getD b₂ (at + 1) 0) e h (ap (λ (m : ℕ). m + getD b₂ (at + 1) 0) n)) (rest .reads)));
       sized = rest .sized;
-      kept = kept-both at (at + 72) k (rest .kept) (omega arith) (omega arith) (omega arith) (omega arith);
+      kept = kept-both at (at + 72) k (rest .kept) (omega arith);
     }

@@ -23,10 +23,10 @@ kept-set b at v = record { long = length-set b at v; same = λ i h. getD-set-oth
 
 -- two steps, within one range
 pub kept-both : {f t f₁ t₁ : ℕ} {b b₁ b₂ : List ℕ} (from to : ℕ) → Kept f t b b₁ → Kept f₁ t₁ b₁ b₂
-    → from ≤ f → t ≤ to → from ≤ f₁ → t₁ ≤ to → Kept from to b b₂
-kept-both from to h k l₁ l₂ l₃ l₄ = record {
+    → (from ≤ f) × (t ≤ to) × (from ≤ f₁) × (t₁ ≤ to) → Kept from to b b₂
+kept-both from to h k fits = record {
   long = k .long ∙ h .long;
-  same = λ i o. k .same i (⊎-elim (λ l. inl (omega arith)) (λ l. inr (omega arith)) o) ∙ h .same i (⊎-elim (λ l. inl (omega arith)) (λ l. inr (omega arith)) o);
+  same = λ i o. ⊎-elim (λ l. k .same i (inl (omega arith)) ∙ h .same i (inl (omega arith))) (λ l. k .same i (inr (omega arith)) ∙ h .same i (inr (omega arith))) o;
 }
 
 -- a number that was read and then stored

@@ -49,7 +49,7 @@ module _ {A : Type 0} (layout : Layout A) where
   row-more local {b = b} {b′ = b′} read′ from k l h sized kept e = record {
     reads = become values e;
     sized = λ i p. all i p (decLt i k);
-    kept = kept-both _ _ (h .kept) kept (omega arith) (omega (arith, next-place (layout .width) k)) (omega arith) (omega (arith, next-place (layout .width) k));
+    kept = kept-both _ _ (h .kept) kept (omega (arith, next-place (layout .width) k));
   }
     where
       here : (i : ℕ) → i < k → (layout .held b′ (from + layout .width * i) ≡ layout .held b (from + layout .width * i)) × layout .Sized b′ (from + layout .width * i)
@@ -66,44 +66,46 @@ module _ {A : Type 0} (layout : Layout A) where
           (tabulate-same k (λ (i : ℕ). layout .held b (from + layout .width * i)) (λ (i : ℕ). layout .held b′ (from + layout .width * i)) (λ i p. sym (here i p .0)))
           ∙ sym (rw (add-one k) (tabulate-more k (λ (i : ℕ). layout .held b′ (from + layout .width * i))))
 
-  pub none : (from : ℕ) (bytes : List ℕ) (c : Cursor) (b : List ℕ) → Fills (many 0 layout) from bytes c b b c
-  unfolding tabulate
-  none from bytes c b = record { reads = times-none (layout .read) bytes c; sized = λ k l. absurd (omega arith); kept = kept-none _ _ b }
+-- What a loop has done after k turns: k of `count` entries are filled.
+pub record Filled {A : Type 0} (layout : Layout A) (from count : ℕ) (bytes : List ℕ) (c : Cursor) (b : List ℕ) (k : ℕ) (b′ : List ℕ) (c′ : Cursor) : Type 0 where
+  pub within : k ≤ count
+  pub fills : Fills (many k layout) from bytes c b b′ c′
 
-  -- one entry more, read in the same way
-  pub more : Local layout → {bytes : List ℕ} {c₀ c c′ : Cursor} {b₀ b b′ : List ℕ} {at : ℕ} (from k : ℕ) → layout .low ≤ from → at ≡ from + layout .width * k
-      → Fills (many k layout) from bytes c₀ b₀ b c → Fills layout at bytes c b b′ c′ → Fills (many (k + 1) layout) from bytes c₀ b₀ b′ c′
-  more local {bytes} {c₀} {c} {c′} {b₀} {b} {b′} from k l e h here = further (rw e at here)
+module _ {A : Type 0} {layout : Layout A} {from count : ℕ} {bytes : List ℕ} {c₀ : Cursor} {b₀ : List ℕ} where
+  pub none : Filled layout from count bytes c₀ b₀ 0 b₀ c₀
+  unfolding tabulate
+  none = record {
+    within = omega arith;
+    fills = record { reads = times-none (layout .read) bytes c₀; sized = λ k l. absurd (omega arith); kept = kept-none _ _ b₀ };
+  }
+
+  -- one entry more
+  pub more : Local layout → {c c′ : Cursor} {b b′ : List ℕ} {at k : ℕ} → layout .low ≤ from → Filled layout from count bytes c₀ b₀ k b c → Fills layout at bytes c b b′ c′
+      → k < count → at ≡ from + layout .width * k → Filled layout from count bytes c₀ b₀ (k + 1) b′ c′
+  more local {c} {c′} {b} {b′} {at} {k} l h here p e = record { within = omega arith; fills = further (rw e at here) }
     where
       further : Fills layout (from + layout .width * k) bytes c b b′ c′ → Fills (many (k + 1) layout) from bytes c₀ b₀ b′ c′
-      further here = row-more local _ from k l h (here .sized) (here .kept) (rw (add-one k) (times-more (layout .read) k _ _ (h .reads) (here .reads)))
+      further here =
+          row-more layout local _ from k l (h .fills) (here .sized) (here .kept)
+          (rw (add-one k) (times-more (layout .read) k _ _ (h .fills .reads) (here .reads)))
 
   -- all of them
-  pub whole : {bytes : List ℕ} {c c′ : Cursor} {b b′ : List ℕ} {from k : ℕ} (count : ℕ) → k ≤ count → count ≤ k
-      → Fills (many k layout) from bytes c b b′ c′ → Fills (many count layout) from bytes c b b′ c′
-  whole {k = k} count l₁ l₂ h = let e : k ≡ count = omega arith in rw e at h
+  pub whole : {c : Cursor} {b : List ℕ} {k : ℕ} → count ≤ k → Filled layout from count bytes c₀ b₀ k b c → Fills (many count layout) from bytes c₀ b₀ b c
+  whole {k = k} l h = let e : k ≡ count = omega (arith, h .within) in rw e at (h .fills)
 
 -- an entry of one place, and entries side by side
 pub single-local : {A : Type 0} (read : Reader A) (value : ℕ → A) (In : ℕ → Type 0) → Local (single read value In)
 single-local read value In = record { same = λ b b′ at below here s. let e = here at (omega arith) (omega arith) in (ap value e, rw (← e) at s) }
 
 pub many-local : {A : Type 0} (count : ℕ) (layout : Layout A) → Local layout → Local (many count layout)
-many-local {A} count layout local = record { same = λ b b′ from below here s. (values b b′ from below here s, λ k p. each b b′ from below here s k p .1) }
-  where
-    each : (b b′ : List ℕ) (from : ℕ) → ((i : ℕ) → i < layout .low → getD b′ i 0 ≡ getD b i 0)
-        → ((i : ℕ) → from ≤ i → i < from + layout .width * count → getD b′ i 0 ≡ getD b i 0)
-        → ((k : ℕ) → k < count → layout .Sized b (from + layout .width * k)) → (k : ℕ) → k < count
-        → (layout .held b′ (from + layout .width * k) ≡ layout .held b (from + layout .width * k)) × layout .Sized b′ (from + layout .width * k)
-    each b b′ from below here s k p =
-        local .same b b′ (from + layout .width * k) below (λ i h₁ h₂. here i (omega arith) (omega (arith, before-place (layout .width) k count p))) (s k p)
-
-    values : (b b′ : List ℕ) (from : ℕ) → ((i : ℕ) → i < layout .low → getD b′ i 0 ≡ getD b i 0)
-        → ((i : ℕ) → from ≤ i → i < from + layout .width * count → getD b′ i 0 ≡ getD b i 0)
-        → ((k : ℕ) → k < count → layout .Sized b (from + layout .width * k))
-        → tabulate count (λ (k : ℕ). layout .held b′ (from + layout .width * k)) ≡ tabulate count (λ (k : ℕ). layout .held b (from + layout .width * k))
-    values b b′ from below here s =
-        tabulate-same count (λ (k : ℕ). layout .held b′ (from + layout .width * k)) (λ (k : ℕ). layout .held b (from + layout .width * k))
-        (λ k p. each b b′ from below here s k p .0)
+many-local {A} count layout local = record {
+  same = λ b b′ from below here s.
+      let each : (k : ℕ) → k < count → (layout .held b′ (from + layout .width * k) ≡ layout .held b (from + layout .width * k)) × layout .Sized b′ (from + layout .width * k)
+      = λ k p. local .same b b′ (from + layout .width * k) below (λ i h₁ h₂. here i (omega arith) (omega (arith, before-place (layout .width) k count p))) (s k p) in (
+        tabulate-same count (λ (k : ℕ). layout .held b′ (from + layout .width * k)) (λ (k : ℕ). layout .held b (from + layout .width * k)) (λ k p. each k p .0),
+        λ k p. each k p .1,
+      );
+}
 
 -- entries of one place each
 pub ones : (b : List ℕ) (from m : ℕ) → tabulate m (λ (k : ℕ). getD b (from + 1 * k) 0) ≡ entries b from m

@@ -51,8 +51,8 @@ record-after low at {bytes} {c₃ = c₃} {b = b} {b₁ = b₁} {b₂ = b₂} {b
           (chain _ (above .reads c₀ y) (chain _ (counted-read 5 6 4 (value 5) (count .reads) (fields .reads)) (done bytes c₃ _)));
       sized = rw m (count .sized .high);
       kept =
-          kept-both at (at + 6) (kept-both at (at + 6) (above .kept) (count .kept) (omega arith) (omega arith) (omega arith) (omega arith)) (fields .kept)
-          (omega arith) (omega arith) (omega arith) (omega (arith, count .sized .high));
+          kept-both at (at + 6) (kept-both at (at + 6) (above .kept) (count .kept) (omega arith)) (fields .kept)
+          (omega (arith, count .sized .high));
     }
 
 pub from-word : {A : Type 0} {layout : Layout A} {at : ℕ} {bytes : List ℕ} {c₀ c r : Cursor} {v : ℕ} {b b′ : List ℕ} → Yields (word 5) bytes c₀ c v

@@ -4,23 +4,8 @@ use Rattle.book.proofs.Conditions.{atom-fills}
 use Rattle.book.proofs.atom.Statement.{statement}
 use Rattle.book.proofs.atom.Tie as tie
 
-named-requires : tie.Need-named-requires
-named-requires c κs = omega arith
-
-add-count : tie.Need-add-count
-add-count c = omega arith
-
-count-requires : tie.Need-count-requires
-count-requires c κs = (omega arith, omega (arith, c .before .before .before .named .ensures .kept .long))
-
-add-most : tie.Need-add-most
-add-most c = omega (arith, c .before .before .before .before .before .before .before .before .before .before .pre)
-
 slice-read-most : tie.Need-slice-read-most
 slice-read-most c = omega (arith, c .before .before .before .before .before .before .before .before .before .before .before .pre .1, c .before .before .before .count .ensures .kept .long, c .before .before .before .before .before .before .before .named .ensures .kept .long)
-
-add-terms : tie.Need-add-terms
-add-terms c = omega (arith, c .before .before .before .before .before .before .before .before .before .before .before .before .pre)
 
 terms-requires : tie.Need-terms-requires
 terms-requires c κs = (c .before .before .before .before .before .before .before .before .before .before .before .before .pre .0, omega (arith, c .before .before .before .before .before .before .before .before .before .before .before .before .pre .1, c .before .before .before .before .count .ensures .sized .high, c .before .before .before .before .count .ensures .kept .long, c .before .before .before .before .before .before .before .before .named .ensures .kept .long))
@@ -30,10 +15,11 @@ returns c =
     let a = c .before .before .before .before .before .before .before .before .before .before .before .before .before .before .before .args in
     atom-fills (a .n) (a .at) (c .before .before .before .before .before .before .before .before .before .before .before .named .ensures) (c .before .before .before .before .before .before .before .count .ensures) (c .before .before .terms .ensures)
 
-same-length : tie.Need-same-length
-same-length c = returns c .kept .long
-
 pub atom-spec : {M : Type 1} → statement M
 atom-spec =
     tie.close
-    (tie.spec named-requires add-count count-requires add-most slice-read-most add-terms terms-requires same-length returns)
+    (tie.spec (λ c κs. omega arith) (λ c. omega arith)
+    (λ c κs. (omega arith, omega (arith, c .before .before .before .named .ensures .kept .long)))
+    (λ c. omega (arith, c .before .before .before .before .before .before .before .before .before .before .pre)) slice-read-most
+    (λ c. omega (arith, c .before .before .before .before .before .before .before .before .before .before .before .before .pre))
+    terms-requires (λ c. returns c .kept .long) returns)

@@ -5,26 +5,8 @@ use Rattle.book.proofs.RuleParts.{kept₀₅, body-fills}
 use Rattle.book.proofs.body.Statement.{statement}
 use Rattle.book.proofs.body.Tie as tie
 
-add-count : tie.Need-add-count
-add-count c = omega arith
-
-count-requires : tie.Need-count-requires
-count-requires c κs = omega arith
-
-add-k : tie.Need-add-k
-add-k c = omega (arith, c .before .before .before .before .before .before .pre)
-
-slice-read-k : tie.Need-slice-read-k
-slice-read-k c = omega (arith, c .before .before .before .before .before .before .before .pre .3, c .before .before .before .count .ensures .kept .long)
-
-add-pures : tie.Need-add-pures
-add-pures c = omega (arith, c .before .before .before .before .before .before .before .before .pre)
-
 pures-requires : tie.Need-pures-requires
 pures-requires c κs = (c .before .before .before .before .before .before .before .before .pre .0, omega (arith, c .before .before .before .before .before .before .before .before .pre .3, c .before .before .before .before .count .ensures .sized .high, c .before .before .before .before .count .ensures .kept .long))
-
-add-count-2 : tie.Need-add-count-2
-add-count-2 c = omega (arith, c .before .before .before .before .before .before .before .before .before .before .before .before .pre)
 
 count-requires-2 : tie.Need-count-requires-2
 count-requires-2 c κs = (omega arith, omega (arith, c .before .before .before .before .before .before .before .before .before .before .before .before .pre .3, c .before .before .before .pures .ensures .kept .long, c .before .before .before .before .before .before .before .before .count .ensures .kept .long))
@@ -74,11 +56,12 @@ returns c =
     body-fills (a .n) (a .at) (p .1) (p .2) (c .before .before .before .before .before .before .before .before .before .before .before .before .before .before .before .before .before .before .before .before .before .before .before .before .before .count .ensures) (c .before .before .before .before .before .before .before .before .before .before .before .before .before .before .before .before .before .before .before .before .pures .ensures) (c .before .before .before .before .before .before .before .before .before .before .before .before .before .before .before .before .count2 .ensures) (c .before .before .before .before .before .before .before .before .before .before .before .atoms .ensures)
     (c .before .before .before .before .before .before .before .count3 .ensures) (c .before .before .calls .ensures)
 
-same-length : tie.Need-same-length
-same-length c = returns c .kept .long
-
 pub body-spec : {M : Type 1} → statement M
 body-spec =
     tie.close
-    (tie.spec add-count count-requires add-k slice-read-k add-pures pures-requires add-count-2 count-requires-2 add-k-2 slice-read-k-2
-    add-atoms atoms-requires add-count-3 count-requires-3 add-k-3 slice-read-k-3 add-calls calls-requires same-length returns)
+    (tie.spec (λ c. omega arith) (λ c κs. omega arith) (λ c. omega (arith, c .before .before .before .before .before .before .pre))
+    (λ c. omega (arith, c .before .before .before .before .before .before .before .pre .3, c .before .before .before .count .ensures .kept .long))
+    (λ c. omega (arith, c .before .before .before .before .before .before .before .before .pre)) pures-requires
+    (λ c. omega (arith, c .before .before .before .before .before .before .before .before .before .before .before .before .pre))
+    count-requires-2 add-k-2 slice-read-k-2 add-atoms atoms-requires add-count-3 count-requires-3 add-k-3 slice-read-k-3 add-calls
+    calls-requires (λ c. returns c .kept .long) returns)

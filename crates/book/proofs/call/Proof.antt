@@ -5,26 +5,11 @@ use Rattle.book.proofs.Heading.{arity-few}
 use Rattle.book.proofs.call.Statement.{statement}
 use Rattle.book.proofs.call.Tie as tie
 
-slice-read-predicates : tie.Need-slice-read-predicates
-slice-read-predicates c = omega arith
-
-named-requires : tie.Need-named-requires
-named-requires c κs = omega arith
-
 slice-read-predicate : tie.Need-slice-read-predicate
 slice-read-predicate c = omega (arith, c .before .before .before .before .before .before .before .before .pre, c .before .before .before .named .ensures .kept .long)
 
-cast-predicate : tie.Need-cast-predicate
-cast-predicate c = omega (arith, c .slice-known4 .given (c .before .before .before .before .before .before .before .before .args .at))
-
-add-arity : tie.Need-add-arity
-add-arity c = omega (arith, c .slice-known4 .given (c .before .before .before .before .before .before .before .before .args .at))
-
 slice-read-arity : tie.Need-slice-read-arity
 slice-read-arity c = omega (arith, c .before .before .before .before .before .before .before .before .before .pre, c .before .before .before .before .before .before .before .before .before .pre .1 .few, c .before .before .before .before .named .ensures .sized (c .before .before .before .before .before .before .before .before .before .pre .1 .some), c .before .before .before .before .named .ensures .kept .long)
-
-add-terms : tie.Need-add-terms
-add-terms c = omega (arith, c .before .before .before .before .before .before .before .before .before .before .pre)
 
 terms-requires : tie.Need-terms-requires
 terms-requires c κs =
@@ -38,11 +23,11 @@ returns c =
     let p = c .before .before .before .before .before .before .before .before .before .before .before .before .before .pre in
     call-fills (a .n) (a .at) (p .1) (p .2) (c .before .before .before .before .before .before .before .before .named .ensures) (c .before .before .terms .ensures)
 
-same-length : tie.Need-same-length
-same-length c = returns c .kept .long
-
 pub call-spec : {M : Type 1} → statement M
 call-spec =
     tie.close
-    (tie.spec slice-read-predicates named-requires slice-read-predicate cast-predicate add-arity slice-read-arity add-terms terms-requires
-    same-length returns)
+    (tie.spec (λ c. omega arith) (λ c κs. omega arith) slice-read-predicate
+    (λ c. omega (arith, c .slice-known4 .given (c .before .before .before .before .before .before .before .before .args .at)))
+    (λ c. omega (arith, c .slice-known4 .given (c .before .before .before .before .before .before .before .before .args .at)))
+    slice-read-arity (λ c. omega (arith, c .before .before .before .before .before .before .before .before .before .before .pre))
+    terms-requires (λ c. returns c .kept .long) returns)

@@ -11,8 +11,5 @@ returns c =
     let e = c .before .before .before .rule-set .ensures in
     record { is = rw (c .finish .ensures) (finish-is 4 ruleSet (e .reads)); header = e .header; long = e .long }
 
-same-length : tie.Need-same-length
-same-length c = returns c .long
-
 pub read-rules-spec : {M : Type 1} → statement M
-read-rules-spec = tie.close (tie.spec (λ c κs. search needs) (λ c κs. search needs) same-length returns)
+read-rules-spec = tie.close (tie.spec (λ c κs. search needs) (λ c κs. search needs) (λ c. returns c .long) returns)

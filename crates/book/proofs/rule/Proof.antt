@@ -5,35 +5,17 @@ use Rattle.book.proofs.RuleParts.{rule-fills}
 use Rattle.book.proofs.rule.Statement.{statement}
 use Rattle.book.proofs.rule.Tie as tie
 
-slice-read-predicates : tie.Need-slice-read-predicates
-slice-read-predicates c = omega arith
-
-named-requires : tie.Need-named-requires
-named-requires c κs = omega arith
-
 slice-read-head : tie.Need-slice-read-head
 slice-read-head c = omega (arith, c .before .before .before .before .before .before .before .before .pre, c .before .before .before .named .ensures .kept .long)
 
-cast-head : tie.Need-cast-head
-cast-head c = omega (arith, c .slice-known4 .given (c .before .before .before .before .before .before .before .before .args .at))
-
-add-arity : tie.Need-add-arity
-add-arity c = omega (arith, c .slice-known4 .given (c .before .before .before .before .before .before .before .before .args .at))
-
 slice-read-arity : tie.Need-slice-read-arity
 slice-read-arity c = omega (arith, c .before .before .before .before .before .before .before .before .before .pre, c .before .before .before .before .before .before .before .before .before .pre .0 .few, c .before .before .before .before .named .ensures .sized (c .before .before .before .before .before .before .before .before .before .pre .0 .some), c .before .before .before .before .named .ensures .kept .long)
-
-add-count : tie.Need-add-count
-add-count c = omega (arith, c .before .before .before .before .before .before .before .before .before .before .pre)
 
 sub-count : tie.Need-sub-count
 sub-count c = let p = c .before .before .before .before .before .before .before .before .before .before .pre in omega (arith, arity-few (c .before .before .before .before .before .before .before .before .before .before .args .at) (p .0) (p .1) (c .before .before .before .before .before .named .ensures))
 
 count-requires : tie.Need-count-requires
 count-requires c κs = (omega arith, omega (arith, c .before .before .before .before .before .before .before .before .before .before .pre .2, c .before .before .before .before .before .named .ensures .kept .long))
-
-add-bound : tie.Need-add-bound
-add-bound c = omega (arith, c .before .before .before .before .before .before .before .before .before .before .before .before .before .pre)
 
 slice-read-bound : tie.Need-slice-read-bound
 slice-read-bound c = omega (arith, c .before .before .before .before .before .before .before .before .before .before .before .before .before .before .pre .2, c .before .before .before .count .ensures .kept .long, c .before .before .before .before .before .before .before .before .before .named .ensures .kept .long)
@@ -57,11 +39,13 @@ returns c =
     let p = c .before .before .before .before .before .before .before .before .before .before .before .before .before .before .before .before .before .before .pre in
     rule-fills (c .before .before .before .before .before .before .before .before .before .before .before .before .before .before .before .before .before .before .args .at) (p .0) (p .1) (c .before .before .before .before .before .before .before .before .before .before .before .before .before .named .ensures) (c .before .before .before .before .before .before .before .count .ensures) (c .before .before .body .ensures)
 
-same-length : tie.Need-same-length
-same-length c = returns c .kept .long
-
 pub rule-spec : {M : Type 1} → statement M
 rule-spec =
     tie.close
-    (tie.spec slice-read-predicates named-requires slice-read-head cast-head add-arity slice-read-arity add-count sub-count count-requires
-    add-bound slice-read-bound add-body body-requires same-length returns)
+    (tie.spec (λ c. omega arith) (λ c κs. omega arith) slice-read-head
+    (λ c. omega (arith, c .slice-known4 .given (c .before .before .before .before .before .before .before .before .args .at)))
+    (λ c. omega (arith, c .slice-known4 .given (c .before .before .before .before .before .before .before .before .args .at)))
+    slice-read-arity (λ c. omega (arith, c .before .before .before .before .before .before .before .before .before .before .pre)) sub-count
+    count-requires
+    (λ c. omega (arith, c .before .before .before .before .before .before .before .before .before .before .before .before .before .pre))
+    slice-read-bound add-body body-requires (λ c. returns c .kept .long) returns)

@@ -4,12 +4,6 @@ use Rattle.book.proofs.Whole.{header₃, rule-set-fills}
 use Rattle.book.proofs.rule_set.Statement.{statement}
 use Rattle.book.proofs.rule_set.Tie as tie
 
-count-requires : tie.Need-count-requires
-count-requires c κs = omega arith
-
-slice-read-k : tie.Need-slice-read-k
-slice-read-k c = omega (arith, c .before .before .before .before .before .before .before .pre, c .before .before .before .count .ensures .kept .long)
-
 arities-requires : tie.Need-arities-requires
 arities-requires c κs = omega (arith, c .before .before .before .before .before .before .before .before .pre, c .before .before .before .before .count .ensures .sized .high, c .before .before .before .before .count .ensures .kept .long)
 
@@ -32,10 +26,9 @@ rules-requires c κs =
 returns : tie.Need-returns
 returns c = rule-set-fills (c .before .before .before .before .before .before .before .before .before .before .before .before .before .before .before .before .count .ensures) (c .before .before .before .before .before .before .before .before .before .before .before .arities .ensures) (c .before .before .before .before .before .before .before .count2 .ensures) (c .before .before .rules .ensures)
 
-same-length : tie.Need-same-length
-same-length c = returns c .long
-
 pub rule-set-spec : {M : Type 1} → statement M
 rule-set-spec =
     tie.close
-    (tie.spec count-requires slice-read-k arities-requires count-requires-2 slice-read-k-2 rules-requires same-length returns)
+    (tie.spec (λ c κs. omega arith)
+    (λ c. omega (arith, c .before .before .before .before .before .before .before .pre, c .before .before .before .count .ensures .kept .long))
+    arities-requires count-requires-2 slice-read-k-2 rules-requires (λ c. returns c .long) returns)

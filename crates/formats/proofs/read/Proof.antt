@@ -5,9 +5,6 @@ use borrow.Author.Needs.{needs}
 use Rattle.formats.proofs.read.Statement.{statement}
 use Rattle.formats.proofs.read.Tie as tie
 
-read-query-requires : tie.Need-read-query-requires
-read-query-requires c κs = (c .before .before .before .before .before .before .before .before .read-rules .ensures .header, search needs)
-
 returns : tie.Need-returns
 returns c =
     let book = c .before .before .before .read-rules .ensures in
@@ -31,4 +28,5 @@ pub read-spec : {M : Type 1} → statement M
 read-spec =
     tie.close
     (tie.spec (λ c κs. search needs) (λ c. search needs) (λ c. search needs) (λ c κs. search needs) (λ c. search needs) (λ c. search needs)
-    read-query-requires returns returns-2 returns-3)
+    (λ c κs. (c .before .before .before .before .before .before .before .before .read-rules .ensures .header, search needs)) returns
+    returns-2 returns-3)

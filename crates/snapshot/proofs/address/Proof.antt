@@ -8,12 +8,6 @@ use borrow.Author.Needs.{needs}
 use Rattle.snapshot.proofs.address.Statement.{statement}
 use Rattle.snapshot.proofs.address.Tie as tie
 
-mul-heap : tie.Need-mul-heap
-mul-heap c = omega (arith, c .before .before .good .1 .1 .0)
-
-slice-write-heap : tie.Need-slice-write-heap
-slice-write-heap c = omega arith
-
 returns : tie.Need-returns
 returns c bytes =
     let a = c .before .before .args in
@@ -28,8 +22,8 @@ returns-2 c bytes =
     let a = c .before .before .before .args in
     record { reads = λ c₀ y. rw (c .stop .ensures) (address-off (a .low) _ y (c .before .if1 .left)); sized = tt; kept = kept-none _ _ _ }
 
-same-length : tie.Need-same-length
-same-length c = returns c [] .kept .long
-
 pub address-spec : {M : Type 1} → statement M
-address-spec = tie.close (tie.spec mul-heap slice-write-heap same-length returns (λ c κs. search needs) returns-2)
+address-spec =
+    tie.close
+    (tie.spec (λ c. omega (arith, c .before .before .good .1 .1 .0)) (λ c. omega arith) (λ c. returns c [] .kept .long) returns
+    (λ c κs. search needs) returns-2)

@@ -5,12 +5,6 @@ use Rattle.snapshot.proofs.HeapParts.{record-after}
 use Rattle.snapshot.proofs.after_address.Statement.{statement}
 use Rattle.snapshot.proofs.after_address.Tie as tie
 
-address-requires : tie.Need-address-requires
-address-requires c κs = omega arith
-
-add-size : tie.Need-add-size
-add-size c = omega arith
-
 size-requires : tie.Need-size-requires
 size-requires c κs = omega (arith, c .before .before .before .before .before .before .before .pre, c .before .before .before .address .ensures [] .kept .long)
 
@@ -34,10 +28,8 @@ returns c =
     let a = c .before .before .before .before .before .before .before .before .before .before .before .before .before .before .before .args in
     record-after (a .low) (a .at) (c .before .before .before .before .before .before .before .before .before .before .before .address .ensures _) (c .before .before .before .before .before .before .before .size .ensures) (c .before .before .values .ensures)
 
-same-length : tie.Need-same-length
-same-length c = returns c .kept .long
-
 pub after-address-spec : {M : Type 1} → statement M
 after-address-spec =
     tie.close
-    (tie.spec address-requires add-size size-requires add-k mul-k slice-read-k add-values values-requires same-length returns)
+    (tie.spec (λ c κs. omega arith) (λ c. omega arith) size-requires add-k mul-k slice-read-k add-values values-requires
+    (λ c. returns c .kept .long) returns)

@@ -5,12 +5,6 @@ use Rattle.snapshot.proofs.HeapParts.{heap-fills}
 use Rattle.snapshot.proofs.counted_records.Statement.{statement}
 use Rattle.snapshot.proofs.counted_records.Tie as tie
 
-size-requires : tie.Need-size-requires
-size-requires c κs = omega arith
-
-slice-read-k : tie.Need-slice-read-k
-slice-read-k c = omega (arith, c .before .before .before .before .before .before .before .pre, c .before .before .before .size .ensures .kept .long)
-
 records-requires : tie.Need-records-requires
 records-requires c κs = omega (arith, c .before .before .before .before .before .before .before .before .pre, c .before .before .before .before .size .ensures .sized .high, c .before .before .before .before .size .ensures .kept .long)
 
@@ -20,8 +14,9 @@ returns c =
     let rest = c .before .before .records .ensures in
     record { reads = heap-fills count rest; long = rest .kept .long ∙ count .kept .long }
 
-same-length : tie.Need-same-length
-same-length c = returns c .long
-
 pub counted-records-spec : {M : Type 1} → statement M
-counted-records-spec = tie.close (tie.spec size-requires slice-read-k records-requires same-length returns)
+counted-records-spec =
+    tie.close
+    (tie.spec (λ c κs. omega arith)
+    (λ c. omega (arith, c .before .before .before .before .before .before .before .pre, c .before .before .before .size .ensures .kept .long))
+    records-requires (λ c. returns c .long) returns)

@@ -14,43 +14,16 @@ Inv-loop s heap₀ count most next₀ low₀ k₀ heap next low k = (k ≤ count
 abbrev μ-loop : tie.MeasureT-loop
 μ-loop s heap₀ count most next₀ low₀ k₀ heap next low k = count - k
 
-loop-holds : tie.Need-loop-holds Inv-loop μ-loop
-loop-holds c = let a = c .before .before .args in (omega arith, last-none (a .heap .now), records-none _ _ _)
-
-mul-heap-record : tie.Need-mul-heap-record Inv-loop μ-loop
-mul-heap-record c = omega (arith, c .before .before .before .before .before .pre)
-
-add-heap-record : tie.Need-add-heap-record Inv-loop μ-loop
-add-heap-record c = omega (arith, c .before .before .before .before .before .pre)
-
-heap-record-requires : tie.Need-heap-record-requires Inv-loop μ-loop
-heap-record-requires c κs = rw (c .before .before .loop .inv .2 .kept .long) (omega (arith, c .before .before .before .before .before .pre))
-
-mul-low : tie.Need-mul-low Inv-loop μ-loop
-mul-low c = omega (arith, c .before .before .before .before .before .before .before .before .pre)
-
-add-low : tie.Need-add-low Inv-loop μ-loop
-add-low c = omega (arith, c .before .before .before .before .before .before .before .before .pre)
-
 mul-low-2 : tie.Need-mul-low-2 Inv-loop μ-loop
 mul-low-2 c = omega (arith, c .before .before .before .before .before .before .before .before .pre, c .before .before .before .before .before .before .before .before .good .1 .1 .0)
 
 slice-read-low : tie.Need-slice-read-low Inv-loop μ-loop
 slice-read-low c = omega (arith, c .before .before .before .before .before .before .before .before .before .pre, c .before .before .before .heap-record .ensures .kept .long, c .before .before .before .before .before .before .loop .inv .2 .kept .long)
 
-add-k : tie.Need-add-k Inv-loop μ-loop
-add-k c = omega arith
-
-loop-less : tie.Need-loop-less Inv-loop μ-loop
-loop-less c = omega arith
-
 loop-again : tie.Need-loop-again Inv-loop μ-loop
 loop-again c =
     let l = c .before .before .before .before .before .before .loop in
     (omega arith, last-more (c .before .before .before .heap-record .last .1 .1 .0) (l .k), records-more (l .low) (l .k) (l .inv .1) (l .inv .2) (c .before .before .before .heap-record .ensures))
-
-same-length : tie.Need-same-length Inv-loop μ-loop
-same-length c = c .before .loop .inv .2 .kept .long
 
 returns : tie.Need-returns Inv-loop μ-loop
 returns c =
@@ -60,5 +33,10 @@ returns c =
 pub records-spec : {M : Type 1} → statement M
 records-spec =
     tie.close
-    (tie.spec Inv-loop μ-loop loop-holds mul-heap-record add-heap-record heap-record-requires mul-low add-low mul-low-2 slice-read-low add-k
-    loop-less loop-again same-length returns)
+    (tie.spec Inv-loop μ-loop (λ c. let a = c .before .before .args in (omega arith, last-none (a .heap .now), records-none _ _ _))
+    (λ c. omega (arith, c .before .before .before .before .before .pre))
+    (λ c. omega (arith, c .before .before .before .before .before .pre))
+    (λ c κs. rw (c .before .before .loop .inv .2 .kept .long) (omega (arith, c .before .before .before .before .before .pre)))
+    (λ c. omega (arith, c .before .before .before .before .before .before .before .before .pre))
+    (λ c. omega (arith, c .before .before .before .before .before .before .before .before .pre)) mul-low-2 slice-read-low (λ c. omega arith)
+    (λ c. omega arith) loop-again (λ c. c .before .loop .inv .2 .kept .long) returns)

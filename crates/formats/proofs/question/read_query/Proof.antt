@@ -10,24 +10,6 @@ use borrow.Author.Needs.{needs}
 use Rattle.formats.proofs.question.read_query.Statement.{statement}
 use Rattle.formats.proofs.question.read_query.Tie as tie
 
-element-copy-out-predicates : tie.Need-element-copy-out-predicates
-element-copy-out-predicates c = omega arith
-
-add-arity : tie.Need-add-arity
-add-arity c = let p = c .before .before .before .before .before .pre .0 in omega (arith, c .before .below .ensures .small (p .some), p .few)
-
-element-copy-out-arity : tie.Need-element-copy-out-arity
-element-copy-out-arity c = let p = c .before .before .before .before .before .pre .0 in omega (arith, c .before .below .ensures .small (p .some), p .few)
-
-ranged-requires : tie.Need-ranged-requires
-ranged-requires c κs = omega arith
-
-slice-write-query : tie.Need-slice-write-query
-slice-write-query c = omega (arith, c .before .before .before .before .before .before .before .before .before .pre .1)
-
-slice-write-query-2 : tie.Need-slice-write-query-2
-slice-write-query-2 c = simp length-set (omega (arith, c .before .before .before .before .before .before .before .before .before .pre .1))
-
 values-requires : tie.Need-values-requires
 values-requires c κs =
     let p = c .before .before .before .before .before .before .before .before .before .before .pre .0 in
@@ -52,12 +34,13 @@ returns c =
       long = values .kept .long ∙ stored-long q (x .result) (k .result);
     }
 
-same-length : tie.Need-same-length
-same-length c = returns c .long
-
 pub read-query-spec : {M : Type 1} → statement M
 read-query-spec =
     tie.close
-    (tie.spec element-copy-out-predicates (λ c κs. search needs) (λ c. search needs) add-arity element-copy-out-arity ranged-requires
-    (λ c κs. search needs) (λ c κs. search needs) slice-write-query slice-write-query-2 values-requires (λ c κs. search needs) same-length
-    returns)
+    (tie.spec (λ c. omega arith) (λ c κs. search needs) (λ c. search needs)
+    (λ c. let p = c .before .before .before .before .before .pre .0 in omega (arith, c .before .below .ensures .small (p .some), p .few))
+    (λ c. let p = c .before .before .before .before .before .pre .0 in omega (arith, c .before .below .ensures .small (p .some), p .few))
+    (λ c κs. omega arith) (λ c κs. search needs) (λ c κs. search needs)
+    (λ c. omega (arith, c .before .before .before .before .before .before .before .before .before .pre .1))
+    (λ c. simp length-set (omega (arith, c .before .before .before .before .before .before .before .before .before .pre .1)))
+    values-requires (λ c κs. search needs) (λ c. returns c .long) returns)

@@ -9,8 +9,7 @@ returns c =
     let a = c .before .before .before .before .before .args in
     rw (c .before .before .c .given .1, c .byte-at .ensures) (next-yields (a .short) (a .s .now) _)
 
-returns-2 : tie.Need-returns-2
-returns-2 c = record { is = rw (c .before .c2 .given .1) }
-
 pub byte-spec : {M : Type 1} → statement M
-byte-spec = tie.close (tie.spec (λ c. search needs) (λ c κs. search needs) (λ c. search needs) returns returns-2)
+byte-spec =
+    tie.close
+    (tie.spec (λ c. search needs) (λ c κs. search needs) (λ c. search needs) returns (λ c. record { is = rw (c .before .c2 .given .1) }))

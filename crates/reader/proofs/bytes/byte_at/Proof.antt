@@ -5,11 +5,8 @@ use Rattle.reader.proofs.Left.{cons-at}
 use Rattle.reader.proofs.bytes.byte_at.Statement.{statement}
 use Rattle.reader.proofs.bytes.byte_at.Tie as tie
 
-returns : tie.Need-returns
-returns c = rw (cons-at (c .before .before .args .s .now) _ (c .before .if1 .taken))
-
-returns-2 : tie.Need-returns-2
-returns-2 c = rw (drop-of-length-le (c .before .args .s .now) (c .if1 .left))
-
 pub byte-at-spec : {M : Type 1} → statement M
-byte-at-spec = tie.close (tie.spec (λ c. search needs) (λ c. search needs) returns returns-2)
+byte-at-spec =
+    tie.close
+    (tie.spec (λ c. search needs) (λ c. search needs) (λ c. rw (cons-at (c .before .before .args .s .now) _ (c .before .if1 .taken)))
+    (λ c. rw (drop-of-length-le (c .before .args .s .now) (c .if1 .left))))

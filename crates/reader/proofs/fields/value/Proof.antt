@@ -7,19 +7,13 @@ use borrow.Author.Needs.{needs}
 use Rattle.reader.proofs.fields.value.Statement.{statement}
 use Rattle.reader.proofs.fields.value.Tie as tie
 
-mul-block : tie.Need-mul-block
-mul-block c = omega (arith, c .before .before .before .before .good .1 .1 .0)
-
-slice-write-block : tie.Need-slice-write-block
-slice-write-block c = omega arith
-
 returns : tie.Need-returns
 returns c =
     let a = c .before .before .before .before .args in
     stored (λ v. v) Any (a .block .now) (a .at) (c .as-read .result) (c .before .before .before .before .pre) (rw (c .as-read .ensures) (value-read (a .short) (c .before .word .ensures))) tt
 
-same-length : tie.Need-same-length
-same-length c = returns c .kept .long
-
 pub value-spec : {M : Type 1} → statement M
-value-spec = tie.close (tie.spec (λ c κs. search needs) (λ c κs. search needs) mul-block slice-write-block same-length returns)
+value-spec =
+    tie.close
+    (tie.spec (λ c κs. search needs) (λ c κs. search needs) (λ c. omega (arith, c .before .before .before .before .good .1 .1 .0))
+    (λ c. omega arith) (λ c. returns c .kept .long) returns)

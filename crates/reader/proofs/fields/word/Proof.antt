@@ -5,24 +5,6 @@ use borrow.Author.Needs.{needs}
 use Rattle.reader.proofs.fields.word.Statement.{statement}
 use Rattle.reader.proofs.fields.word.Tie as tie
 
-mul-low : tie.Need-mul-low
-mul-low c = omega arith
-
-add-low : tie.Need-add-low
-add-low c = omega arith
-
-mul-high : tie.Need-mul-high
-mul-high c = omega arith
-
-add-high : tie.Need-add-high
-add-high c = omega arith
-
-mul-t14 : tie.Need-mul-t14
-mul-t14 c = omega arith
-
-add-t15 : tie.Need-add-t15
-add-t15 c = omega arith
-
 returns : tie.Need-returns
 returns c =
     let a = c .before .before .before .before .before .before .before .before .before .args in
@@ -33,4 +15,5 @@ pub word-spec : {M : Type 1} → statement M
 word-spec =
     tie.close
     (tie.spec (λ c κs. search needs) (λ c κs. search needs) (λ c κs. search needs) (λ c κs. search needs) (λ c κs. search needs)
-    (λ c κs. search needs) mul-low add-low (λ c κs. search needs) (λ c κs. search needs) mul-high add-high mul-t14 add-t15 returns)
+    (λ c κs. search needs) (λ c. omega arith) (λ c. omega arith) (λ c κs. search needs) (λ c κs. search needs) (λ c. omega arith)
+    (λ c. omega arith) (λ c. omega arith) (λ c. omega arith) returns)
