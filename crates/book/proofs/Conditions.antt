@@ -28,9 +28,7 @@ pure-fills n at {bytes} {c₃ = c₃} {b} {b₁} {b₂} {b₃} kind left right =
     record {
       reads = rw (k, l) (chain _ (kind-read (kind .reads)) (chain _ (left .reads) (chain _ (right .reads) (done bytes c₃ _))));
       sized = tt;
-      kept =
-          kept-both at (at + 3) (kept-both at (at + 3) (kind .kept) (left .kept) (omega arith)) (right .kept)
-          (omega arith);
+      kept = kept-both at (at + 3) (kept-both at (at + 3) (kind .kept) (left .kept) (omega arith)) (right .kept) (omega arith);
     }
 
 -- terms side by side, as the blocks have them
@@ -48,9 +46,7 @@ atom-fills n at {bytes} {c₃ = c₃} {b} {b₁} {b₂} {b₃} name count fields
           rw (a, m, ← terms-held b₃ (at + 2) (getD b₂ (at + 1) 0))
           (chain _ (name .reads) (chain _ (counted-read 1 2 4 (term n) (count .reads) (fields .reads)) (done bytes c₃ _)));
       sized = rw m (count .sized .high);
-      kept =
-          kept-both at (at + 6) (kept-both at (at + 6) (name .kept) (count .kept) (omega arith)) (fields .kept)
-          (omega (arith, count .sized .high));
+      kept = kept-both at (at + 6) (kept-both at (at + 6) (name .kept) (count .kept) (omega arith)) (fields .kept) (omega (arith, count .sized .high));
     }
 
 pub call-fills : (n at : ℕ) {bytes : List ℕ} {c c₁ c₂ : Cursor} {b b₁ b₂ : List ℕ} → Header b → 16 ≤ at → Fills (nameLayout (getD b 0 0)) at bytes c b b₁ c₁

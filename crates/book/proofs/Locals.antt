@@ -1,14 +1,14 @@
 -- Each kind of entry looks at no place but its own and, for calls and rules, the arities below 16.
 use mathlib.Core.Path.{_≡_}
 use mathlib.Core.List.{List}
-use Prim.Native.Nat.{ℕ, _+_, _≤_, _<_}
+use Prim.Native.Nat.{ℕ, _+_, _<_}
 use native.Mathlib.Omega.{arith}
 use lib.ListN.{getD}
 use Rattle.semantics.specs.Formats.{term}
-use Rattle.block.specs.Layout.{termIn, callIn, ruleIn}
+use Rattle.block.specs.Layout.{termIn}
 use Rattle.reader.specs.Cursor.{rangedByte, Within}
 use Rattle.reader.specs.Layout.{Any}
-use Rattle.book.specs.BookLayout.{countLayout, termLayout, pureLayout, atomLayout, CallSized, callLayout, RuleSized, ruleLayout}
+use Rattle.book.specs.BookLayout.{countLayout, termLayout, pureLayout, atomLayout, callLayout, ruleLayout}
 use Rattle.reader.proofs.Section.{Local, single-local, many-local, entries-same}
 
 pub count-local : (least most : ℕ) → Local (countLayout least most)
@@ -31,39 +31,26 @@ atom-local n = record {
 }
 
 pub call-local : (arities : List ℕ) (n : ℕ) → Local (callLayout arities n)
-call-local arities n = record { same = λ b b′ at below here s. both b b′ at below here s }
-  where
-    both : (b b′ : List ℕ) (at : ℕ) → ((i : ℕ) → i < 16 → getD b′ i 0 ≡ getD b i 0) → ((i : ℕ) → at ≤ i → i < at + 5 → getD b′ i 0 ≡ getD b i 0)
-        → CallSized b at → (callIn b′ at ≡ callIn b at) × CallSized b′ at
-    both b b′ at below here s =
-        let e = here at (omega arith) (omega arith) in
-        let m : getD b′ (8 + getD b at 0) 0 ≡ getD b (8 + getD b at 0) 0 = below (8 + getD b at 0) (omega (arith, s .name)) in
-        let arguments = entries-same b b′ (at + 1) (getD b (8 + getD b at 0) 0) (λ i l₁ l₂. here i (omega arith) (omega (arith, s .few))) in
-        (rw (e, m, arguments), record { name = rw e (s .name); few = rw (e, m) (s .few) })
+call-local arities n = record {
+  same = λ b b′ at below here s.
+      let e = here at (omega arith) (omega arith) in
+      let m : getD b′ (8 + getD b at 0) 0 ≡ getD b (8 + getD b at 0) 0 = below (8 + getD b at 0) (omega (arith, s .name)) in
+      let arguments = entries-same b b′ (at + 1) (getD b (8 + getD b at 0) 0) (λ i l₁ l₂. here i (omega arith) (omega (arith, s .few))) in
+      (rw (e, m, arguments), record { name = rw e (s .name); few = rw (e, m) (s .few) });
+}
 
 -- a rule's conditions, atoms and calls are many of their kind
 pub rule-local : (arities : List ℕ) → Local (ruleLayout arities)
-rule-local arities = record { same = λ b b′ at below here s. both b b′ at below here s }
-  where
-    both : (b b′ : List ℕ) (at : ℕ) → ((i : ℕ) → i < 16 → getD b′ i 0 ≡ getD b i 0) → ((i : ℕ) → at ≤ i → i < at + 72 → getD b′ i 0 ≡ getD b i 0)
-        → RuleSized b at → (ruleIn b′ at ≡ ruleIn b at) × RuleSized b′ at
-    both b b′ at below here s =
-        let m₁ = here (at + 2) (omega arith) (omega arith) in
-        let m₂ = here (at + 3) (omega arith) (omega arith) in
-        let m₃ = here (at + 4) (omega arith) (omega arith) in
-        let few₁ = s .pures in
-        let few₂ = s .atoms in
-        let few₃ = s .calls in
-        let none : (i : ℕ) → i < 0 → getD b′ i 0 ≡ getD b i 0 = λ i l. below i (omega arith) in
-        let ps = many-local (getD b (at + 2) 0) (pureLayout 0) (pure-local 0) .same b b′ (at + 8) none (λ i l₁ l₂. here i (omega arith) (omega arith)) (λ k l. tt) in
-        let cs = many-local (getD b (at + 3) 0) (atomLayout 0) (atom-local 0) .same b b′ (at + 32) none (λ i l₁ l₂. here i (omega arith) (omega arith)) (s .fields) in
-        let ds = many-local (getD b (at + 4) 0) (callLayout arities 0) (call-local arities 0) .same b b′ (at + 56) below (λ i l₁ l₂. here i (omega arith) (omega arith)) (s .called) in (
-          rw (m₁, m₂, m₃, here at (omega arith) (omega arith), here (at + 1) (omega arith) (omega arith), ps .0, cs .0, ds .0),
-          record {
-            pures = rw m₁ few₁;
-            atoms = rw m₂ few₂;
-            fields = rw m₂ (cs .1);
-            calls = rw m₃ few₃;
-            called = rw m₃ (ds .1);
-          },
-        )
+rule-local arities = record {
+  same = λ b b′ at below here s.
+      let m₁ = here (at + 2) (omega arith) (omega arith) in
+      let m₂ = here (at + 3) (omega arith) (omega arith) in
+      let m₃ = here (at + 4) (omega arith) (omega arith) in
+      let none : (i : ℕ) → i < 0 → getD b′ i 0 ≡ getD b i 0 = λ i l. below i (omega arith) in
+      let ps = many-local (getD b (at + 2) 0) (pureLayout 0) (pure-local 0) .same b b′ (at + 8) none (λ i l₁ l₂. here i (omega arith) (omega (arith, s .pures))) (λ k l. tt) in
+      let cs = many-local (getD b (at + 3) 0) (atomLayout 0) (atom-local 0) .same b b′ (at + 32) none (λ i l₁ l₂. here i (omega arith) (omega (arith, s .atoms))) (s .fields) in
+      let ds = many-local (getD b (at + 4) 0) (callLayout arities 0) (call-local arities 0) .same b b′ (at + 56) below (λ i l₁ l₂. here i (omega arith) (omega (arith, s .calls))) (s .called) in (
+        rw (m₁, m₂, m₃, here at (omega arith) (omega arith), here (at + 1) (omega arith) (omega arith), ps .0, cs .0, ds .0),
+        record { pures = rw m₁ (s .pures); atoms = rw m₂ (s .atoms); fields = rw m₂ (cs .1); calls = rw m₃ (s .calls); called = rw m₃ (ds .1) },
+      );
+}

@@ -23,7 +23,7 @@ use Rattle.reader.proofs.Chain.{chain, done, become, alike, turn}
 use Rattle.reader.proofs.Counting.{counted-read}
 use Rattle.reader.proofs.Keep.{kept-both}
 use Rattle.book.proofs.Locals.{pure-local, atom-local}
-use Rattle.reader.proofs.Section.{pass, many-local}
+use Rattle.reader.proofs.Section.{many-local}
 
 module _ (n at : ℕ) {bytes : List ℕ} {c c₁ c₂ c₃ c₄ c₅ : Cursor} {b b₁ b₂ b₃ b₄ b₅ : List ℕ}
     (count₁ : Fills (countLayout 0 8) (at + 2) bytes c b b₁ c₁)
@@ -41,94 +41,67 @@ module _ (n at : ℕ) {bytes : List ℕ} {c c₁ c₂ c₃ c₄ c₅ : Cursor} {
       let k₄ = kept-both (at + 2) (at + 72) k₃ (atoms .kept) (omega arith) in
       kept-both (at + 2) (at + 72) k₄ (count₃ .kept) (omega arith)
 
-module _ (n at : ℕ) {bytes : List ℕ} {c c₁ c₂ c₃ c₄ c₅ c₆ : Cursor} {b b₁ b₂ b₃ b₄ b₅ b₆ : List ℕ} (header : Header b) (low : 16 ≤ at)
-    (count₁ : Fills (countLayout 0 8) (at + 2) bytes c b b₁ c₁)
-    (pures : Fills (many (getD b₁ (at + 2) 0) (pureLayout n)) (at + 8) bytes c₁ b₁ b₂ c₂)
-    (count₂ : Fills (countLayout 0 4) (at + 3) bytes c₂ b₂ b₃ c₃)
-    (atoms : Fills (many (getD b₃ (at + 3) 0) (atomLayout n)) (at + 32) bytes c₃ b₃ b₄ c₄)
-    (count₃ : Fills (countLayout 0 3) (at + 4) bytes c₄ b₄ b₅ c₅)
-    (calls : Fills (many (getD b₅ (at + 4) 0) (callLayout (aritiesIn b₅) n)) (at + 56) bytes c₅ b₅ b₆ c₆) where
-  -- from each place on, nothing before it is written
-  kept₄₆ : Kept (at + 4) (at + 72) b₄ b₆
-  kept₄₆ = kept-both (at + 4) (at + 72) (count₃ .kept) (calls .kept) (omega (arith, count₃ .sized .high))
+  module _ {c₆ : Cursor} {b₆ : List ℕ} (header : Header b) (low : 16 ≤ at)
+      (calls : Fills (many (getD b₅ (at + 4) 0) (callLayout (aritiesIn b₅) n)) (at + 56) bytes c₅ b₅ b₆ c₆) where
+    kept₀₆ : Kept (at + 2) (at + 72) b b₆
+    kept₀₆ = kept-both (at + 2) (at + 72) kept₀₅ (calls .kept) (omega (arith, count₃ .sized .high))
 
-  kept₃₆ : Kept (at + 4) (at + 72) b₃ b₆
-  kept₃₆ = kept-both (at + 4) (at + 72) (atoms .kept) kept₄₆ (omega (arith, count₂ .sized .high))
+    -- the counts, the conditions and the atoms lie apart from what is written after them
+    m₃ : getD b₆ (at + 4) 0 ≡ getD b₅ (at + 4) 0
+    m₃ = calls .kept .same _ (inl (omega arith))
 
-  kept₂₆ : Kept (at + 3) (at + 72) b₂ b₆
-  kept₂₆ = kept-both (at + 3) (at + 72) (count₂ .kept) kept₃₆ (omega arith)
+    m₂ : getD b₆ (at + 3) 0 ≡ getD b₃ (at + 3) 0
+    m₂ = calls .kept .same _ (inl (omega arith)) ∙ count₃ .kept .same _ (inl (omega arith)) ∙ atoms .kept .same _ (inl (omega arith))
 
-  kept₁₆ : Kept (at + 3) (at + 72) b₁ b₆
-  kept₁₆ = kept-both (at + 3) (at + 72) (pures .kept) kept₂₆ (omega (arith, count₁ .sized .high))
+    m₁ : getD b₆ (at + 2) 0 ≡ getD b₁ (at + 2) 0
+    m₁ =
+        calls .kept .same _ (inl (omega arith)) ∙ count₃ .kept .same _ (inl (omega arith)) ∙ atoms .kept .same _ (inl (omega arith))
+        ∙ count₂ .kept .same _ (inl (omega arith)) ∙ pures .kept .same _ (inl (omega arith))
 
-  kept₀₆ : Kept (at + 2) (at + 72) b b₆
-  kept₀₆ =
-      kept-both (at + 2) (at + 72) (kept₀₅ n at count₁ pures count₂ atoms count₃) (calls .kept) (omega (arith, count₃ .sized .high))
+    abbrev Stays : {A : Type 0} → Layout A → ℕ → List ℕ → List ℕ → Type 0
+    Stays layout from x y = (layout .held y from ≡ layout .held x from) × layout .Sized y from
 
-  m₁ : getD b₆ (at + 2) 0 ≡ getD b₁ (at + 2) 0
-  m₁ = kept₁₆ .same (at + 2) (inl (omega arith))
+    atoms-stay : Stays (many (getD b₃ (at + 3) 0) (atomLayout n)) (at + 32) b₄ b₆
+    atoms-stay =
+        let few = count₂ .sized .high in
+        many-local _ (atomLayout n) (atom-local n) .same b₄ b₆ (at + 32) (λ i l. absurd (omega arith))
+        (λ i l₁ l₂. calls .kept .same i (inl (omega arith)) ∙ count₃ .kept .same i (inr (omega arith))) (atoms .sized)
 
-  m₂ : getD b₆ (at + 3) 0 ≡ getD b₃ (at + 3) 0
-  m₂ = kept₃₆ .same (at + 3) (inl (omega arith))
+    pures-stay : Stays (many (getD b₁ (at + 2) 0) (pureLayout n)) (at + 8) b₂ b₆
+    pures-stay =
+        let few = count₁ .sized .high in
+        many-local _ (pureLayout n) (pure-local n) .same b₂ b₆ (at + 8) (λ i l. absurd (omega arith))
+        (λ i l₁ l₂. calls .kept .same i (inl (omega arith)) ∙ count₃ .kept .same i (inr (omega arith)) ∙ atoms .kept .same i (inl (omega arith))
+        ∙ count₂ .kept .same i (inr (omega arith))) (pures .sized)
 
-  m₃ : getD b₆ (at + 4) 0 ≡ getD b₅ (at + 4) 0
-  m₃ = calls .kept .same (at + 4) (inl (omega arith))
+    rule-stays : _≡_ {A = Rule} (record {
+      head = getD b at 0;
+      bound = getD b (at + 1) 0;
+      pures = many (getD b₁ (at + 2) 0) (pureLayout n) .held b₂ (at + 8);
+      points-to = many (getD b₃ (at + 3) 0) (atomLayout n) .held b₄ (at + 32);
+      calls = many (getD b₅ (at + 4) 0) (callLayout (aritiesIn b₅) n) .held b₆ (at + 56);
+    }) (ruleIn b₆ at)
+    rule-stays = rw (m₁, m₂, m₃, kept₀₆ .same at (inl (omega arith)), kept₀₆ .same (at + 1) (inl (omega arith)), pures-stay .0, atoms-stay .0)
 
-  -- the conditions and the atoms lie apart from what is written after them
-  abbrev Stays : {A : Type 0} → Layout A → ℕ → List ℕ → List ℕ → Type 0
-  Stays layout from x y = (layout .held y from ≡ layout .held x from) × layout .Sized y from
+    called : Yields (times (getD b₅ (at + 4) 0) (call (aritiesIn b) n)) bytes c₅ c₆ (many (getD b₅ (at + 4) 0) (callLayout (aritiesIn b₅) n) .held b₆ (at + 56))
+    called = turn (ap (λ (arities : List ℕ). times (getD b₅ (at + 4) 0) (call arities n)) (arities-kept kept₀₅ (omega arith) (header .few))) (calls .reads)
 
-  pures-stay : Stays (many (getD b₁ (at + 2) 0) (pureLayout n)) (at + 8) b₂ b₆
-  pures-stay =
-      let few = count₁ .sized .high in
-      let local = many-local (getD b₁ (at + 2) 0) (pureLayout n) (pure-local n) in
-      let layout = many (getD b₁ (at + 2) 0) (pureLayout n) in
-      let s₃ = pass layout local (at + 8) (count₂ .kept) (omega arith) (inr (omega arith)) (pures .sized) in
-      let s₄ = pass layout local (at + 8) (atoms .kept) (omega arith) (inl (omega arith)) (s₃ .1) in
-      let s₅ = pass layout local (at + 8) (count₃ .kept) (omega arith) (inr (omega arith)) (s₄ .1) in
-      let s₆ = pass layout local (at + 8) (calls .kept) (omega arith) (inl (omega arith)) (s₅ .1) in
-      (s₆ .0 ∙ s₅ .0 ∙ s₄ .0 ∙ s₃ .0, s₆ .1)
-
-  atoms-stay : Stays (many (getD b₃ (at + 3) 0) (atomLayout n)) (at + 32) b₄ b₆
-  atoms-stay =
-      let few = count₂ .sized .high in
-      let local = many-local (getD b₃ (at + 3) 0) (atomLayout n) (atom-local n) in
-      let layout = many (getD b₃ (at + 3) 0) (atomLayout n) in
-      let s₅ = pass layout local (at + 32) (count₃ .kept) (omega arith) (inr (omega arith)) (atoms .sized) in
-      let s₆ = pass layout local (at + 32) (calls .kept) (omega arith) (inl (omega arith)) (s₅ .1) in
-      (s₆ .0 ∙ s₅ .0, s₆ .1)
-
-  arities-stay : aritiesIn b₅ ≡ aritiesIn b
-  arities-stay = arities-kept (kept₀₅ n at count₁ pures count₂ atoms count₃) (omega arith) (header .few)
-
-  rule-stays : _≡_ {A = Rule} (record {
-    head = getD b at 0;
-    bound = getD b (at + 1) 0;
-    pures = many (getD b₁ (at + 2) 0) (pureLayout n) .held b₂ (at + 8);
-    points-to = many (getD b₃ (at + 3) 0) (atomLayout n) .held b₄ (at + 32);
-    calls = many (getD b₅ (at + 4) 0) (callLayout (aritiesIn b₅) n) .held b₆ (at + 56);
-  }) (ruleIn b₆ at)
-  rule-stays = rw (m₁, m₂, m₃, kept₀₆ .same at (inl (omega arith)), kept₀₆ .same (at + 1) (inl (omega arith)), pures-stay .0, atoms-stay .0)
-
-  called : Yields (times (getD b₅ (at + 4) 0) (call (aritiesIn b) n)) bytes c₅ c₆ (many (getD b₅ (at + 4) 0) (callLayout (aritiesIn b₅) n) .held b₆ (at + 56))
-  called = turn (ap (λ (arities : List ℕ). times (getD b₅ (at + 4) 0) (call arities n)) arities-stay) (calls .reads)
-
-  pub body-fills : Body at n bytes c b b₆ c₆
-  body-fills = record {
-    reads =
-        become rule-stays
-        (chain _ (counted-read 1 2 8 (pure n) (count₁ .reads) (pures .reads))
-        (chain _ (counted-read 1 2 4 (atom n) (count₂ .reads) (atoms .reads))
-        (chain _ (counted-read 1 2 3 (call (aritiesIn b) n) (count₃ .reads) called) (done bytes c₆ _))));
-    sized = record {
-      pures = rw m₁ (count₁ .sized .high);
-      atoms = rw m₂ (count₂ .sized .high);
-      fields = rw m₂ (atoms-stay .1);
-      calls = rw m₃ (count₃ .sized .high);
-      called = rw m₃ (calls .sized);
-    };
-    kept = kept₀₆;
-  }
+    pub body-fills : Body at n bytes c b b₆ c₆
+    body-fills = record {
+      reads =
+          become rule-stays
+          (chain _ (counted-read 1 2 8 (pure n) (count₁ .reads) (pures .reads))
+          (chain _ (counted-read 1 2 4 (atom n) (count₂ .reads) (atoms .reads))
+          (chain _ (counted-read 1 2 3 (call (aritiesIn b) n) (count₃ .reads) called) (done bytes c₆ _))));
+      sized = record {
+        pures = rw m₁ (count₁ .sized .high);
+        atoms = rw m₂ (count₂ .sized .high);
+        fields = rw m₂ (atoms-stay .1);
+        calls = rw m₃ (count₃ .sized .high);
+        called = rw m₃ (calls .sized);
+      };
+      kept = kept₀₆;
+    }
 
 -- Head and bound variables are at most 8 together: the test of the definition, and the one on the bound variables alone.
 same-test : (arity b : ℕ) → arity ≤ 8 → leb (arity + b) 8 ≡ leb b (8 - arity)

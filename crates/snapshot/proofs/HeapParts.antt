@@ -50,9 +50,7 @@ record-after low at {bytes} {c₃ = c₃} {b = b} {b₁ = b₁} {b₂ = b₂} {b
           rw (a, m, ← ones b₃ (at + 2) (getD b₂ (at + 1) 0))
           (chain _ (above .reads c₀ y) (chain _ (counted-read 5 6 4 (value 5) (count .reads) (fields .reads)) (done bytes c₃ _)));
       sized = rw m (count .sized .high);
-      kept =
-          kept-both at (at + 6) (kept-both at (at + 6) (above .kept) (count .kept) (omega arith)) (fields .kept)
-          (omega (arith, count .sized .high));
+      kept = kept-both at (at + 6) (kept-both at (at + 6) (above .kept) (count .kept) (omega arith)) (fields .kept) (omega (arith, count .sized .high));
     }
 
 pub from-word : {A : Type 0} {layout : Layout A} {at : ℕ} {bytes : List ℕ} {c₀ c r : Cursor} {v : ℕ} {b b′ : List ℕ} → Yields (word 5) bytes c₀ c v

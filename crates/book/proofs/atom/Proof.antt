@@ -4,22 +4,18 @@ use Rattle.book.proofs.Conditions.{atom-fills}
 use Rattle.book.proofs.atom.Statement.{statement}
 use Rattle.book.proofs.atom.Tie as tie
 
-slice-read-most : tie.Need-slice-read-most
-slice-read-most c = omega (arith, c .before .before .before .before .before .before .before .before .before .before .before .pre .1, c .before .before .before .count .ensures .kept .long, c .before .before .before .before .before .before .before .named .ensures .kept .long)
-
-terms-requires : tie.Need-terms-requires
-terms-requires c κs = (c .before .before .before .before .before .before .before .before .before .before .before .before .pre .0, omega (arith, c .before .before .before .before .before .before .before .before .before .before .before .before .pre .1, c .before .before .before .before .count .ensures .sized .high, c .before .before .before .before .count .ensures .kept .long, c .before .before .before .before .before .before .before .before .named .ensures .kept .long))
-
 returns : tie.Need-returns
 returns c =
-    let a = c .before .before .before .before .before .before .before .before .before .before .before .before .before .before .before .args in
-    atom-fills (a .n) (a .at) (c .before .before .before .before .before .before .before .before .before .before .before .named .ensures) (c .before .before .before .before .before .before .before .count .ensures) (c .before .before .terms .ensures)
+    let d = c .before .before .before .before .before .before .before in
+    let a = d .before .before .before .before .before .before .before .before .args in
+    atom-fills (a .n) (a .at) (d .before .before .before .before .named .ensures) (d .count .ensures) (c .before .before .terms .ensures)
 
 pub atom-spec : {M : Type 1} → statement M
 atom-spec =
     tie.close
-    (tie.spec (λ c κs. omega arith) (λ c. omega arith)
-    (λ c κs. (omega arith, omega (arith, c .before .before .before .named .ensures .kept .long)))
-    (λ c. omega (arith, c .before .before .before .before .before .before .before .before .before .before .pre)) slice-read-most
+    (tie.spec (λ c κs. omega arith) (λ c. omega arith) (λ c κs. (omega arith, omega (arith, c .before .before .before .named .ensures .kept .long)))
+    (λ c. omega (arith, c .before .before .before .before .before .before .before .before .before .before .pre))
+    (λ c. let d = c .before .before .before in omega (arith, d .before .before .before .before .before .before .before .before .pre .1, d .count .ensures, d .before .before .before .before .named .ensures))
     (λ c. omega (arith, c .before .before .before .before .before .before .before .before .before .before .before .before .pre))
-    terms-requires (λ c. returns c .kept .long) returns)
+    (λ c κs. let d = c .before .before .before .before in let p = d .before .before .before .before .before .before .before .before .pre in (p .0, omega (arith, p .1, d .count .ensures, d .before .before .before .before .named .ensures)))
+    (λ c. returns c .kept .long) returns)

@@ -5,29 +5,21 @@ use Rattle.book.proofs.Heading.{arity-few}
 use Rattle.book.proofs.call.Statement.{statement}
 use Rattle.book.proofs.call.Tie as tie
 
-slice-read-predicate : tie.Need-slice-read-predicate
-slice-read-predicate c = omega (arith, c .before .before .before .before .before .before .before .before .pre, c .before .before .before .named .ensures .kept .long)
-
-slice-read-arity : tie.Need-slice-read-arity
-slice-read-arity c = omega (arith, c .before .before .before .before .before .before .before .before .before .pre, c .before .before .before .before .before .before .before .before .before .pre .1 .few, c .before .before .before .before .named .ensures .sized (c .before .before .before .before .before .before .before .before .before .pre .1 .some), c .before .before .before .before .named .ensures .kept .long)
-
-terms-requires : tie.Need-terms-requires
-terms-requires c κs =
-    let p = c .before .before .before .before .before .before .before .before .before .before .pre in
-    let e = c .before .before .before .before .before .named .ensures in
-    (p .0, omega (arith, p .3, arity-few (c .before .before .before .before .before .before .before .before .before .before .args .at) (p .1) (p .2) e, e .kept .long))
-
 returns : tie.Need-returns
 returns c =
-    let a = c .before .before .before .before .before .before .before .before .before .before .before .before .before .args in
-    let p = c .before .before .before .before .before .before .before .before .before .before .before .before .before .pre in
-    call-fills (a .n) (a .at) (p .1) (p .2) (c .before .before .before .before .before .before .before .before .named .ensures) (c .before .before .terms .ensures)
+    let d = c .before .before .before .before .before .before .before .before in
+    let s = d .before .before .before .before .before in
+    call-fills (s .args .n) (s .args .at) (s .pre .1) (s .pre .2) (d .named .ensures) (c .before .before .terms .ensures)
 
 pub call-spec : {M : Type 1} → statement M
 call-spec =
     tie.close
-    (tie.spec (λ c. omega arith) (λ c κs. omega arith) slice-read-predicate
+    (tie.spec (λ c. omega arith) (λ c κs. omega arith) (λ c. let d = c .before .before .before in omega (arith, d .before .before .before .before .before .pre, d .named .ensures))
     (λ c. omega (arith, c .slice-known4 .given (c .before .before .before .before .before .before .before .before .args .at)))
     (λ c. omega (arith, c .slice-known4 .given (c .before .before .before .before .before .before .before .before .args .at)))
-    slice-read-arity (λ c. omega (arith, c .before .before .before .before .before .before .before .before .before .before .pre))
-    terms-requires (λ c. returns c .kept .long) returns)
+    (λ c. let d = c .before .before .before .before in let p = d .before .before .before .before .before .pre in
+    omega (arith, p, p .1 .few, d .named .ensures .sized (p .1 .some), d .named .ensures .kept .long))
+    (λ c. omega (arith, c .before .before .before .before .before .before .before .before .before .before .pre))
+    (λ c κs. let d = c .before .before .before .before .before in let s = d .before .before .before .before .before in
+    (s .pre .0, omega (arith, s .pre .3, arity-few (s .args .at) (s .pre .1) (s .pre .2) (d .named .ensures), d .named .ensures .kept .long)))
+    (λ c. returns c .kept .long) returns)

@@ -5,47 +5,37 @@ use Rattle.book.proofs.RuleParts.{rule-fills}
 use Rattle.book.proofs.rule.Statement.{statement}
 use Rattle.book.proofs.rule.Tie as tie
 
-slice-read-head : tie.Need-slice-read-head
-slice-read-head c = omega (arith, c .before .before .before .before .before .before .before .before .pre, c .before .before .before .named .ensures .kept .long)
+-- the places after the head's name and before it
+abbrev name : tie.After-count → tie.After-named
+name c = c .before .before .before .before .before .before
 
-slice-read-arity : tie.Need-slice-read-arity
-slice-read-arity c = omega (arith, c .before .before .before .before .before .before .before .before .before .pre, c .before .before .before .before .before .before .before .before .before .pre .0 .few, c .before .before .before .before .named .ensures .sized (c .before .before .before .before .before .before .before .before .before .pre .0 .some), c .before .before .before .before .named .ensures .kept .long)
-
-sub-count : tie.Need-sub-count
-sub-count c = let p = c .before .before .before .before .before .before .before .before .before .before .pre in omega (arith, arity-few (c .before .before .before .before .before .before .before .before .before .before .args .at) (p .0) (p .1) (c .before .before .before .before .before .named .ensures))
-
-count-requires : tie.Need-count-requires
-count-requires c κs = (omega arith, omega (arith, c .before .before .before .before .before .before .before .before .before .before .pre .2, c .before .before .before .before .before .named .ensures .kept .long))
-
-slice-read-bound : tie.Need-slice-read-bound
-slice-read-bound c = omega (arith, c .before .before .before .before .before .before .before .before .before .before .before .before .before .before .pre .2, c .before .before .before .count .ensures .kept .long, c .before .before .before .before .before .before .before .before .before .named .ensures .kept .long)
-
-add-body : tie.Need-add-body
-add-body c = let p = c .before .before .before .before .before .before .before .before .before .before .before .before .before .before .before .pre in omega (arith, arity-few (c .before .before .before .before .before .before .before .before .before .before .before .before .before .before .before .args .at) (p .0) (p .1) (c .before .before .before .before .before .before .before .before .before .before .named .ensures), c .before .before .before .before .count .ensures .sized .high)
-
-body-requires : tie.Need-body-requires
-body-requires c κs =
-    let p = c .before .before .before .before .before .before .before .before .before .before .before .before .before .before .before .pre in
-    let name = c .before .before .before .before .before .before .before .before .before .before .named .ensures in
-    let bound = c .before .before .before .before .count .ensures in (
-      omega (arith, arity-few (c .before .before .before .before .before .before .before .before .before .before .before .before .before .before .before .args .at) (p .0) (p .1) name, bound .sized .high),
-      header-kept (bound .kept) (omega (arith, p .1)) (header-kept (name .kept) (p .1) (p .0)),
-      p .1,
-      omega (arith, p .2, name .kept .long, bound .kept .long),
-    )
+abbrev start : tie.After-named → tie.Start
+start c = c .before .before .before .before .before
 
 returns : tie.Need-returns
 returns c =
-    let p = c .before .before .before .before .before .before .before .before .before .before .before .before .before .before .before .before .before .before .pre in
-    rule-fills (c .before .before .before .before .before .before .before .before .before .before .before .before .before .before .before .before .before .before .args .at) (p .0) (p .1) (c .before .before .before .before .before .before .before .before .before .before .before .before .before .named .ensures) (c .before .before .before .before .before .before .before .count .ensures) (c .before .before .body .ensures)
+    let d = c .before .before .before .before .before .before .before in
+    let s = start (name d) in
+    rule-fills (s .args .at) (s .pre .0) (s .pre .1) (name d .named .ensures) (d .count .ensures) (c .before .before .body .ensures)
 
 pub rule-spec : {M : Type 1} → statement M
 rule-spec =
     tie.close
-    (tie.spec (λ c. omega arith) (λ c κs. omega arith) slice-read-head
-    (λ c. omega (arith, c .slice-known4 .given (c .before .before .before .before .before .before .before .before .args .at)))
-    (λ c. omega (arith, c .slice-known4 .given (c .before .before .before .before .before .before .before .before .args .at)))
-    slice-read-arity (λ c. omega (arith, c .before .before .before .before .before .before .before .before .before .before .pre)) sub-count
-    count-requires
-    (λ c. omega (arith, c .before .before .before .before .before .before .before .before .before .before .before .before .before .pre))
-    slice-read-bound add-body body-requires (λ c. returns c .kept .long) returns)
+    (tie.spec (λ c. omega arith) (λ c κs. omega arith)
+    (λ c. let d = c .before .before .before in omega (arith, start d .pre, d .named .ensures))
+    (λ c. omega (arith, c .slice-known4 .given (start (c .before .before .before) .args .at))) (λ c. omega (arith, c .slice-known4 .given (start (c .before .before .before) .args .at)))
+    (λ c. let d = c .before .before .before .before in let p = start d .pre in omega (arith, p, p .0 .few, d .named .ensures .sized (p .0 .some), d .named .ensures .kept .long))
+    (λ c. omega (arith, start (c .before .before .before .before .before) .pre))
+    (λ c. let d = c .before .before .before .before .before in let s = start d in omega (arith, arity-few (s .args .at) (s .pre .0) (s .pre .1) (d .named .ensures)))
+    (λ c κs. let d = c .before .before .before .before .before in (omega arith, omega (arith, start d .pre .2, d .named .ensures)))
+    (λ c. omega (arith, start (name (c .before .before)) .pre))
+    (λ c. let d = c .before .before .before in omega (arith, start (name d) .pre .2, d .count .ensures, name d .named .ensures))
+    (λ c. let d = c .before .before .before .before in let s = start (name d) in
+    omega (arith, arity-few (s .args .at) (s .pre .0) (s .pre .1) (name d .named .ensures), d .count .ensures))
+    (λ c κs. let d = c .before .before .before .before in let s = start (name d) in let head = name d .named .ensures in let bound = d .count .ensures in (
+      omega (arith, arity-few (s .args .at) (s .pre .0) (s .pre .1) head, bound .sized .high),
+      header-kept (bound .kept) (omega (arith, s .pre .1)) (header-kept (head .kept) (s .pre .1) (s .pre .0)),
+      s .pre .1,
+      omega (arith, s .pre .2, head .kept .long, bound .kept .long),
+    ))
+    (λ c. returns c .kept .long) returns)
