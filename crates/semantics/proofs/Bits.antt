@@ -1,6 +1,6 @@
 -- Bits of a number, and the set of a list without repeats as a number.
 use mathlib.Core.Path.{_≡_, refl, sym, ap, _∙_}
-use mathlib.Core.Logic.{_≢_, _⊎_, inl, inr, ⊎-elim}
+use mathlib.Core.Logic.{_≢_, _⊎_, inl, inr, ⊎-elim, by-cases}
 use mathlib.Core.List.{List, [], _∷_, _++_, List·Memᴰ·head, List·Memᴰ·tail, List·Memᴰ·cases-cons, List·Memᴰ·not-nil, Memᴰ·append-left, Memᴰ·append-right, List·Memᴰ·append-cases, Memᴰ·cast}
 use Prim.Native.Nat.{ℕ, zero, suc, _+_, _-_, _/_, _%_, _^_, _≤_, _<_, min}
 use native.Mathlib.Nat.{pow-suc}
@@ -78,12 +78,13 @@ bit-in (i ∷ is) (Distinct.next h d) j m = step (List·Memᴰ·cases-cons m) (b
 -- membership is decided
 pub decIn : (i : ℕ) (is : List ℕ) → Dec (i among is)
 decIn i [] = no List·Memᴰ·not-nil
-decIn i (x ∷ is) = step (ℕ-discrete i x) (decIn i is)
-  where
-    step : Dec (i ≡ x) → Dec (i among is) → Dec (i among x ∷ is)
-    step (yes e) d = yes (List·Memᴰ·head e)
-    step (no n) (yes m) = yes (List·Memᴰ·tail m)
-    step (no n) (no n′) = no (λ h. ⊎-elim n n′ (List·Memᴰ·cases-cons h))
+decIn i (x ∷ is) =
+    by-cases (ℕ-discrete i x) (λ e. yes (List·Memᴰ·head e))
+    (λ n. by-cases (decIn i is) (λ m. yes (List·Memᴰ·tail m)) (λ n′. no (λ h. ⊎-elim n n′ (List·Memᴰ·cases-cons h))))
+
+-- what is in a list and not its head is in the rest
+pub in-rest : {x y : ℕ} {ys : List ℕ} → x ≢ y → x among y ∷ ys → x among ys
+in-rest n m = ⊎-elim (λ e. absurd (n e)) (λ k. k) (List·Memᴰ·cases-cons m)
 
 pub setOf-append : (xs ys : List ℕ) → setOf (xs ++ ys) ≡ setOf xs + setOf ys
 setOf-append [] ys = omega arith
@@ -155,11 +156,8 @@ whole-set n is d below all = same-bits (setOf is) (2 ^ n - 1) (λ i. step i (dec
     step i (no h) = bit-out is d i (λ m. h (below i m)) ∙ sym (bit-ones-out n i (omega arith))
 
 pub whole-members : (n : ℕ) (is : List ℕ) → Distinct is → setOf is ≡ 2 ^ n - 1 → (i : ℕ) → i < n → i among is
-whole-members n is d e i h = step (decIn i is)
-  where
-    step : Dec (i among is) → i among is
-    step (yes m) = m
-    step (no k) = absurd (omega (arith, bit-out is d i k, bit-ones-in n i h, ap (λ (m : ℕ). bit m i) e))
+whole-members n is d e i h =
+    by-cases (decIn i is) (λ m. m) (λ k. absurd (omega (arith, bit-out is d i k, bit-ones-in n i h, ap (λ (m : ℕ). bit m i) e)))
 
 pub whole-below : (n k : ℕ) → n ≤ k → 2 ^ n - 1 < 2 ^ k
 whole-below n k h = bits-below (2 ^ n - 1) k (λ i l. bit-ones-out n i (omega arith))

@@ -2,7 +2,7 @@
 -- that nothing needs, and write a line for each.
 use mathlib.Core.Bool.{true, false}
 use mathlib.Core.Path.{_≡_, refl, sym, ap, ap₂, _∙_}
-use mathlib.Core.Logic.{_≢_, _⊎_, inl, inr, ⊎-elim}
+use mathlib.Core.Logic.{_≢_, _⊎_, inl, inr, ⊎-elim, by-cases}
 use mathlib.Core.List.{List, [], _∷_, _++_, map, List·Memᴰ·head, List·Memᴰ·tail, List·Memᴰ·cases-cons, List·Memᴰ·not-nil, List·Memᴰ·append-cases, Memᴰ·append-left, Memᴰ·append-right, Memᴰ·map, Memᴰ·of-map, Memᴰ·cast}
 use Prim.Native.Nat.{ℕ, suc, _+_, _*_, _≤_, _<_}
 use native.Mathlib.Omega.{arith}
@@ -20,7 +20,7 @@ use Rattle.semantics.specs.Domain.{domain}
 use Rattle.semantics.specs.Fact.{position, fact}
 use Rattle.semantics.specs.Rounds.{Ground, Complete, After, Holds, AllHold}
 use Rattle.semantics.specs.Certificate.{factAt, LineHolds, Trimmed}
-use Rattle.semantics.proofs.Bits.{decIn}
+use Rattle.semantics.proofs.Bits.{decIn, in-rest}
 use Rattle.semantics.proofs.DomainFacts.{query-good}
 use Rattle.semantics.proofs.FixedPoint.{same-ground, holds-closed, table-holds, holding-counted}
 use Rattle.semantics.proofs.Verdict.{fits-whole, completeness}
@@ -112,14 +112,11 @@ module _ (ruleSet : RuleSet) (heap : Heap) (values : List ℕ) where
 
   prune : {fs : List ℕ} → Built fs → (need : List ℕ) → ((g : ℕ) → g among need → g among fs) → Pruned need fs
   prune Built.none need h = record { facts = []; built = Built.none; has = h; within = λ g m. m; used = λ g m. absurd (List·Memᴰ·not-nil m) }
-  prune (Built.more {f = f} {fs = fs} called g k n b) need h = step (decIn f need) (λ nd hd. prune b nd hd)
-    where
-      step : Dec (f among need) → ((nd : List ℕ) → ((x : ℕ) → x among nd → x among fs) → Pruned nd fs) → Pruned need (f ∷ fs)
-      step (no d) rec = skip f need fs (rec need (λ x m. ⊎-elim (λ e. absurd (d (Memᴰ·cast (sym e) m))) (λ i. i) (List·Memᴰ·cases-cons (h x m))))
-      step (yes m) rec = take-in f need called fs g n m
-          (rec (leave f need ++ called) (λ x i. ⊎-elim
-          (λ l. let (p, q) = leave-out f need x l in ⊎-elim (λ e. absurd (q (sym e))) (λ c. c) (List·Memᴰ·cases-cons (h x p)))
-          (k x) (List·Memᴰ·append-cases (leave f need) i)))
+  prune (Built.more {f = f} {fs = fs} called g k n b) need h =
+      by-cases (decIn f need)
+      (λ m. take-in f need called fs g n m
+      (prune b (leave f need ++ called) (λ x i. ⊎-elim (λ l. let (p, q) = leave-out f need x l in in-rest (λ e. q (sym e)) (h x p)) (k x) (List·Memᴰ·append-cases (leave f need) i))))
+      (λ d. skip f need fs (prune b need (λ x m. in-rest (λ e. d (Memᴰ·cast (sym e) m)) (h x m))))
 
   -- what is called is older
   called-in : {fs : List ℕ} (b : Built fs) (g : ℕ) → CalledIn b g → g among fs
@@ -144,24 +141,16 @@ module _ (ruleSet : RuleSet) (heap : Heap) (values : List ℕ) where
 
   line-bounds : (fs : List ℕ) (g : ℕ) → g among fs → (1 ≤ lineOf fs g) × (lineOf fs g ≤ length fs)
   line-bounds [] g m = absurd (List·Memᴰ·not-nil m)
-  line-bounds (f ∷ fs) g m = step (ℕ-discrete g f) (List·Memᴰ·cases-cons m) (line-bounds fs g)
-    where
-      step : Dec (g ≡ f) → (g ≡ f) ⊎ (g among fs) → (g among fs → (1 ≤ lineOf fs g) × (lineOf fs g ≤ length fs))
-          → (1 ≤ lineOf (f ∷ fs) g) × (lineOf (f ∷ fs) g ≤ length (f ∷ fs))
-      step (yes e) c rec = rw (e, line-head f fs) (omega arith, omega arith)
-      step (no d) (inl e) rec = absurd (d e)
-      step (no d) (inr i) rec = rw (line-tail f g fs d) (rec i .0, omega (arith, rec i .1))
+  line-bounds (f ∷ fs) g m =
+      by-cases (ℕ-discrete g f) (λ e. rw (e, line-head f fs) (omega arith, omega arith))
+      (λ d. let h = line-bounds fs g (in-rest d m) in rw (line-tail f g fs d) (h .0, omega arith))
 
   -- the fact of a line
   line-fact : (fs : List ℕ) → Distinct fs → (k : ℕ) → 1 ≤ k → k ≤ length fs → (g : ℕ) × (g among fs) × (lineOf fs g ≡ k)
   line-fact [] d k low high = absurd (omega arith)
-  line-fact (f ∷ fs) (Distinct.next n d) k low high = step (ℕ-discrete k (suc (length fs))) (line-fact fs d k low)
-    where
-      step : Dec (k ≡ suc (length fs)) → (k ≤ length fs → (g : ℕ) × (g among fs) × (lineOf fs g ≡ k)) → (g : ℕ) × (g among f ∷ fs) × (lineOf (f ∷ fs) g ≡ k)
-      step (yes e) rec = (f, List·Memᴰ·head refl, line-head f fs ∙ sym e)
-      step (no q) rec =
-          let (g, m, e) = rec (omega arith) in
-          (g, List·Memᴰ·tail m, line-tail f g fs (λ p. n (Memᴰ·cast (sym p) m)) ∙ e)
+  line-fact (f ∷ fs) (Distinct.next n d) k low high =
+      by-cases (ℕ-discrete k (suc (length fs))) (λ e. (f, List·Memᴰ·head refl, line-head f fs ∙ sym e))
+      (λ q. let (g, m, e) = line-fact fs d k low (omega arith) in (g, List·Memᴰ·tail m, line-tail f g fs (λ p. n (Memᴰ·cast (sym p) m)) ∙ e))
 
   -- the number of a rule
   spot : {A : Type 0} (z : A) {a : A} {xs : List A} → a among xs → (i : ℕ) × (i < length xs) × (getD xs i z ≡ a)
@@ -202,14 +191,10 @@ module _ (ruleSet : RuleSet) (heap : Heap) (values : List ℕ) where
     unfolding wordsOf wordsFor
     fact-there Built.none a g m = absurd (List·Memᴰ·not-nil m)
     fact-there (Built.more {f = f} {fs = fs} called gr k n b) a g m =
-        step (ℕ-discrete g f) (List·Memᴰ·cases-cons m) (fact-there b (agrees-older words (wordsOf b) (wordsFor f fs called gr) a) g)
-      where
-        step : Dec (g ≡ f) → (g ≡ f) ⊎ (g among fs) → (g among fs → factAt words (lineOf fs g) ≡ g) → factAt words (lineOf (f ∷ fs) g) ≡ g
-        step (yes e) c rec =
-            rw (e, line-head f fs)
-            (ap (λ (i : ℕ). getD words i 0) (omega (arith, words-length b)) ∙ agrees-newest words (wordsOf b) (wordsFor f fs called gr) a 0 (omega arith))
-        step (no d) (inl e) rec = absurd (d e)
-        step (no d) (inr i) rec = ap (factAt words) (line-tail f g fs d) ∙ rec i
+        by-cases (ℕ-discrete g f)
+        (λ e. rw (e, line-head f fs)
+        (ap (λ (i : ℕ). getD words i 0) (omega (arith, words-length b)) ∙ agrees-newest words (wordsOf b) (wordsFor f fs called gr) a 0 (omega arith)))
+        (λ d. ap (factAt words) (line-tail f g fs d) ∙ fact-there b (agrees-older words (wordsOf b) (wordsFor f fs called gr) a) g (in-rest d m))
 
     -- the facts of the lines called are the facts called
     facts-back : {fs : List ℕ} (b : Built fs) → Agrees words (wordsOf b) → (called : List ℕ) → ((g : ℕ) → g among called → g among fs)
@@ -246,12 +231,8 @@ module _ (ruleSet : RuleSet) (heap : Heap) (values : List ℕ) where
     unfolding wordsOf callsOf
     line-taken Built.none a k low high = absurd (omega arith)
     line-taken (Built.more {f = f} {fs = fs} called g kk n b) a k low high =
-        step (ℕ-discrete k (suc (length fs))) (line-taken b (agrees-older words (wordsOf b) (wordsFor f fs called g) a) k low)
-      where
-        step : Dec (k ≡ suc (length fs)) → (k ≤ length fs → LineHolds ruleSet heap values words k (callsOf b k))
-            → LineHolds ruleSet heap values words k (callsOf (Built.more {f = f} {fs = fs} called g kk n b) k)
-        step (yes e) rec = rw (eq-eqb k (suc (length fs)) e, callsOf, e) (newest-taken f fs called g b kk a)
-        step (no d) rec = rw (ne-eqb k (suc (length fs)) d, callsOf) (rec (omega arith))
+        by-cases (ℕ-discrete k (suc (length fs))) (λ e. rw (eq-eqb k (suc (length fs)) e, callsOf, e) (newest-taken f fs called g b kk a))
+        (λ d. rw (ne-eqb k (suc (length fs)) d, callsOf) (line-taken b (agrees-older words (wordsOf b) (wordsFor f fs called g) a) k low (omega arith)))
 
   -- a fact that is called is called by a later line
   record CalledLine (fs : List ℕ) (b : Built fs) (g : ℕ) : Type 0 where

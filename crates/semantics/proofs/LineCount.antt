@@ -1,8 +1,9 @@
 -- How many lines a certificate of the engine's kind has: a test that computes. It goes from the last line to the first, with the facts
 -- passed, and those that a line passed calls and that are yet to come.
+use Rattle.semantics.proofs.Bits.{in-rest}
 use mathlib.Core.Bool.{Bool, true, false, false≢true}
 use mathlib.Core.Path.{_≡_, refl, sym, ap, _∙_}
-use mathlib.Core.Logic.{_≢_, _⊎_, inl, inr, ⊎-elim}
+use mathlib.Core.Logic.{_≢_, _⊎_, inl, inr, ⊎-elim, by-cases}
 use mathlib.Core.List.{List, [], _∷_, _++_, map, flatMap, List·Memᴰ·head, List·Memᴰ·tail, List·Memᴰ·cases-cons, List·Memᴰ·not-nil, List·Memᴰ·append-cases, Memᴰ·append-left, Memᴰ·append-right, Memᴰ·map, Memᴰ·of-map, Memᴰ·cast}
 use Prim.Native.Nat.{ℕ, zero, suc, _≤_, _<_}
 use native.Mathlib.Omega.{arith}
@@ -58,25 +59,17 @@ avoids-in (g ∷ gs) passed h = rw (member-false g passed (h g (List·Memᴰ·he
 pub leave-in : (f : ℕ) (gs : List ℕ) (h : ℕ) → h among gs → f ≢ h → h among leave f gs
 unfolding leave
 leave-in f [] h m n = m
-leave-in f (g ∷ gs) h m n = step (ℕ-discrete f g) (List·Memᴰ·cases-cons m) (λ k. leave-in f gs h k n)
-  where
-    step : Dec (f ≡ g) → (h ≡ g) ⊎ (h among gs) → (h among gs → h among leave f gs) → h among leave f (g ∷ gs)
-    step (yes e) (inl q) rec = absurd (n (e ∙ sym q))
-    step (yes e) (inr k) rec = rw (eq-eqb f g e, leave) (rec k)
-    step (no d) (inl q) rec = rw (ne-eqb f g d, leave) (List·Memᴰ·head q)
-    step (no d) (inr k) rec = rw (ne-eqb f g d, leave) (List·Memᴰ·tail (rec k))
+leave-in f (g ∷ gs) h m n =
+    by-cases (ℕ-discrete f g) (λ e. rw (eq-eqb f g e, leave) (leave-in f gs h (in-rest (λ q. n (e ∙ sym q)) m) n))
+    (λ d. rw (ne-eqb f g d, leave) (⊎-elim List·Memᴰ·head (λ k. List·Memᴰ·tail (leave-in f gs h k n)) (List·Memᴰ·cases-cons m)))
 
 pub leave-out : (f : ℕ) (gs : List ℕ) (h : ℕ) → h among leave f gs → (h among gs) × (f ≢ h)
 unfolding leave
 leave-out f [] h m = absurd (List·Memᴰ·not-nil m)
-leave-out f (g ∷ gs) h m = step (ℕ-discrete f g) m (leave-out f gs h)
-  where
-    more : (h among gs) × (f ≢ h) → (h among g ∷ gs) × (f ≢ h)
-    more p = (List·Memᴰ·tail (p .0), p .1)
-
-    step : Dec (f ≡ g) → h among leave f (g ∷ gs) → (h among leave f gs → (h among gs) × (f ≢ h)) → (h among g ∷ gs) × (f ≢ h)
-    step (yes e) m rec = more (rec (rw (eq-eqb f g e, leave) at m))
-    step (no d) m rec = ⊎-elim (λ q. (List·Memᴰ·head q, λ e. d (e ∙ q))) (λ k. more (rec k)) (List·Memᴰ·cases-cons (rw (ne-eqb f g d, leave) at m))
+leave-out f (g ∷ gs) h m =
+    by-cases (ℕ-discrete f g) (λ e. let p = leave-out f gs h (rw (eq-eqb f g e, leave) at m) in (List·Memᴰ·tail (p .0), p .1))
+    (λ d. ⊎-elim (λ q. (List·Memᴰ·head q, λ e. d (e ∙ q))) (λ k. let p = leave-out f gs h k in (List·Memᴰ·tail (p .0), p .1))
+    (List·Memᴰ·cases-cons (rw (ne-eqb f g d, leave) at m)))
 
 ways-in : (all : List Step) (f : ℕ) (called : List ℕ) → record { conclusion = f; called = called } among all → called among ways all f
 unfolding ways
@@ -128,13 +121,11 @@ module _ (ruleSet : RuleSet) (heap : Heap) (p : ℕ) (query words : List ℕ) (u
     where
       still : (j : ℕ) → k < j → j ≤ u .taken .count → (l : ℕ) → l among u .taken .calls j → 1 ≤ l → l ≤ k
           → factAt words l among leave (factAt words (suc k)) need ++ map (factAt words) (u .taken .calls (suc k))
-      still j above high l m low below = by (ℕ-discrete j (suc k))
-        where
-          by : Dec (j ≡ suc k) → factAt words l among leave (factAt words (suc k)) need ++ map (factAt words) (u .taken .calls (suc k))
-          by (yes e) = Memᴰ·append-right (leave (factAt words (suc k)) need) (Memᴰ·map (factAt words) (rw e at m))
-          by (no d) = Memᴰ·append-left (map (factAt words) (u .taken .calls (suc k)))
-              (leave-in (factAt words (suc k)) need (factAt words l) (s .called j (omega arith) high l m low (omega arith))
-              (λ q. u .once l (suc k) low (omega arith) (s .within) (sym q)))
+      still j above high l m low below =
+          by-cases (ℕ-discrete j (suc k)) (λ e. Memᴰ·append-right (leave (factAt words (suc k)) need) (Memᴰ·map (factAt words) (rw e at m)))
+          (λ d. Memᴰ·append-left (map (factAt words) (u .taken .calls (suc k)))
+          (leave-in (factAt words (suc k)) need (factAt words l) (s .called j (omega arith) high l m low (omega arith))
+          (λ q. u .once l (suc k) low (omega arith) (s .within) (sym q))))
 
       old : (g : ℕ) → g among leave (factAt words (suc k)) need → (l : ℕ) × (1 ≤ l) × (l ≤ k) × (factAt words l ≡ g)
       old g m =
@@ -143,11 +134,7 @@ module _ (ruleSet : RuleSet) (heap : Heap) (p : ℕ) (query words : List ℕ) (u
           (l, low, lesser l high (λ q. d (ap (factAt words) (sym q) ∙ e)), e)
         where
           lesser : (l : ℕ) → l ≤ suc k → (l ≡ suc k → ⊥) → l ≤ k
-          lesser l h n = by (ℕ-discrete l (suc k))
-            where
-              by : Dec (l ≡ suc k) → l ≤ k
-              by (yes e) = absurd (n e)
-              by (no d) = omega arith
+          lesser l h n = by-cases (ℕ-discrete l (suc k)) (λ e. absurd (n e)) (λ d. omega arith)
 
       new : (g : ℕ) → g among map (factAt words) (u .taken .calls (suc k)) → (l : ℕ) × (1 ≤ l) × (l ≤ k) × (factAt words l ≡ g)
       new g m =

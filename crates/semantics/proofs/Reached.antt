@@ -1,6 +1,6 @@
 -- There is always a complete table; it has no fact twice; and "more facts than n" is that its length is above n.
 use mathlib.Core.Path.{_≡_}
-use mathlib.Core.Logic.{_↔_}
+use mathlib.Core.Logic.{_↔_, by-cases}
 use mathlib.Core.List.{List}
 use Prim.Native.Nat.{ℕ, _<_}
 use native.Mathlib.Omega.{arith}
@@ -29,13 +29,12 @@ pub more-facts : (i : Input) {r : ℕ} {xs : List ℕ} → CompletedInput i r xs
 more-facts i {xs} c n = (to, from)
   where
     to : MoreFactsThan i n → n < length xs
-    to m = step (decLt (length xs) (length (m .witnesses)))
-      where
-        step : Dec (length xs < length (m .witnesses)) → n < length xs
-        step (no l) = omega (arith, m .many)
-        step (yes l) =
-            let p = pigeon (m .witnesses) xs (m .distinct) l in
-            absurd (p .2 (complete-has (i .ruleSet) (i .heap) (domainOf i) (c .complete) (p .0) (m .each (p .0) (p .1))))
+    to m =
+        by-cases (decLt (length xs) (length (m .witnesses)))
+        (λ l.
+        let p = pigeon (m .witnesses) xs (m .distinct) l in
+        absurd (p .2 (complete-has (i .ruleSet) (i .heap) (domainOf i) (c .complete) (p .0) (m .each (p .0) (p .1)))))
+        (λ l. omega (arith, m .many))
 
     from : n < length xs → MoreFactsThan i n
     from l = record {

@@ -1,7 +1,7 @@
 -- The test takes words exactly if the conditions for lines hold.
 use mathlib.Core.Bool.{true, false≢true}
 use mathlib.Core.Path.{_≡_, refl, sym, ap, ap₂, _∙_}
-use mathlib.Core.Logic.{_↔_}
+use mathlib.Core.Logic.{_↔_, by-cases}
 use mathlib.Core.List.{List, [], _∷_, _++_, map, List·Memᴰ·head, List·Memᴰ·tail, Memᴰ·map, Memᴰ·of-map, Memᴰ·cast}
 use Prim.Native.Nat.{ℕ, zero, suc, _+_, _*_, _/_, _%_, _^_, _≤_, _<_}
 use native.Mathlib.Omega.{arith}
@@ -219,12 +219,7 @@ module _ (ruleSet : RuleSet) (heap : Heap) (domain words : List ℕ) where
   lines-out asc zero e k low high = absurd (omega arith)
   lines-out asc (suc n) e k low high =
       let (p, q) = both-out (takesLine ruleSet heap domain words (suc n)) (takesLines ruleSet heap domain words n) e in
-      step (ℕ-discrete k (suc n)) p (λ h. lines-out asc n q k low h)
-    where
-      step : Dec (k ≡ suc n) → takesLine ruleSet heap domain words (suc n) ≡ true → (k ≤ n → LineHolds ruleSet heap domain words k (callsOf ruleSet heap domain words k))
-          → LineHolds ruleSet heap domain words k (callsOf ruleSet heap domain words k)
-      step (yes h) p rec = rw h (line-out asc (suc n) p)
-      step (no h) p rec = rec (omega arith)
+      by-cases (ℕ-discrete k (suc n)) (λ h. rw h (line-out asc (suc n) p)) (λ h. lines-out asc n q k low (omega arith))
 
   lines-in : length (ruleSet .rules) ≤ 256 → length domain ≤ 128 → (n : ℕ) (calls : ℕ → List ℕ) → n ≤ 65535 → ((k : ℕ) → 1 ≤ k → k ≤ n → LineHolds ruleSet heap domain words k (calls k))
       → takesLines ruleSet heap domain words n ≡ true
