@@ -1,6 +1,6 @@
 -- Bits of a number, and the set of a list without repeats as a number.
 use mathlib.Core.Path.{_≡_, refl, sym, ap, _∙_}
-use mathlib.Core.Logic.{_≢_, _⊎_, inl, inr, ⊎-elim, by-cases}
+use mathlib.Core.Logic.{_≢_, _⊎_, ⊎-elim, by-cases}
 use mathlib.Core.List.{List, [], _∷_, _++_, List·Memᴰ·head, List·Memᴰ·tail, List·Memᴰ·cases-cons, List·Memᴰ·not-nil, Memᴰ·append-left, Memᴰ·append-right, List·Memᴰ·append-cases, Memᴰ·cast}
 use Prim.Native.Nat.{ℕ, zero, suc, _+_, _-_, _/_, _%_, _^_, _≤_, _<_, min}
 use native.Mathlib.Nat.{pow-suc}
@@ -69,11 +69,9 @@ bit-out (i ∷ is) (Distinct.next h d) j n =
 
 pub bit-in : (is : List ℕ) → Distinct is → (j : ℕ) → j among is → bit (setOf is) j ≡ 1
 bit-in [] d j m = absurd (List·Memᴰ·not-nil m)
-bit-in (i ∷ is) (Distinct.next h d) j m = step (List·Memᴰ·cases-cons m) (bit-in is d j)
-  where
-    step : (j ≡ i) ⊎ (j among is) → (j among is → bit (setOf is) j ≡ 1) → bit (setOf (i ∷ is)) j ≡ 1
-    step (inl e) rec = rw e (bit-add-same (setOf is) i (bit-out is d i h))
-    step (inr m′) rec = bit-add-other (setOf is) i j (bit-out is d i h) (λ e. h (Memᴰ·cast e m′)) ∙ rec m′
+bit-in (i ∷ is) (Distinct.next h d) j m =
+    ⊎-elim (λ (e : j ≡ i). rw e (bit-add-same (setOf is) i (bit-out is d i h)))
+    (λ k. bit-add-other (setOf is) i j (bit-out is d i h) (λ e. h (Memᴰ·cast e k)) ∙ bit-in is d j k) (List·Memᴰ·cases-cons m)
 
 -- membership is decided
 pub decIn : (i : ℕ) (is : List ℕ) → Dec (i among is)
@@ -112,11 +110,8 @@ distinct-append (x ∷ xs) ys (Distinct.next n dx) dy apart =
 
 -- two sets share no bit exactly if the lists share no member
 pub apart-and : (xs ys : List ℕ) → Distinct xs → Distinct ys → ((i : ℕ) → i among xs → ¬ (i among ys)) → bitAnd (setOf xs) (setOf ys) ≡ 0
-apart-and xs ys dx dy apart = bits-zero (bitAnd (setOf xs) (setOf ys)) (λ i. bit-and (setOf xs) (setOf ys) i ∙ step i (decIn i xs))
-  where
-    step : (i : ℕ) → Dec (i among xs) → min (bit (setOf xs) i) (bit (setOf ys) i) ≡ 0
-    step i (yes m) = omega (arith, bit-out ys dy i (apart i m))
-    step i (no n) = omega (arith, bit-out xs dx i n)
+apart-and xs ys dx dy apart = bits-zero (bitAnd (setOf xs) (setOf ys))
+    (λ i. bit-and (setOf xs) (setOf ys) i ∙ by-cases (decIn i xs) (λ m. omega (arith, bit-out ys dy i (apart i m))) (λ n. omega (arith, bit-out xs dx i n)))
 
 pub and-apart : (xs ys : List ℕ) → Distinct xs → Distinct ys → bitAnd (setOf xs) (setOf ys) ≡ 0 → (i : ℕ) → i among xs → ¬ (i among ys)
 and-apart xs ys dx dy e i m k =
@@ -149,11 +144,9 @@ pub same-bits : (a b : ℕ) → ((i : ℕ) → bit a i ≡ bit b i) → a ≡ b
 same-bits a b h = same-bits-fuel a b (a + b) (omega arith) (omega arith) h
 
 pub whole-set : (n : ℕ) (is : List ℕ) → Distinct is → ((i : ℕ) → i among is → i < n) → ((i : ℕ) → i < n → i among is) → setOf is ≡ 2 ^ n - 1
-whole-set n is d below all = same-bits (setOf is) (2 ^ n - 1) (λ i. step i (decLt i n))
-  where
-    step : (i : ℕ) → Dec (i < n) → bit (setOf is) i ≡ bit (2 ^ n - 1) i
-    step i (yes h) = bit-in is d i (all i h) ∙ sym (bit-ones-in n i h)
-    step i (no h) = bit-out is d i (λ m. h (below i m)) ∙ sym (bit-ones-out n i (omega arith))
+whole-set n is d below all = same-bits (setOf is) (2 ^ n - 1)
+    (λ i. by-cases (decLt i n) (λ h. bit-in is d i (all i h) ∙ sym (bit-ones-in n i h))
+    (λ h. bit-out is d i (λ m. h (below i m)) ∙ sym (bit-ones-out n i (omega arith))))
 
 pub whole-members : (n : ℕ) (is : List ℕ) → Distinct is → setOf is ≡ 2 ^ n - 1 → (i : ℕ) → i < n → i among is
 whole-members n is d e i h =

@@ -1,7 +1,7 @@
 -- The contracts can be met: for all bytes and all lent memory there is an outcome of the engine, and for all words one of the check.
 use mathlib.Core.Bool.{Bool, true, false, false≢true}
 use mathlib.Core.Path.{_≡_, refl, sym, _∙_}
-use mathlib.Core.Logic.{_↔_}
+use mathlib.Core.Logic.{_↔_, by-cases}
 use mathlib.Core.List.{List}
 use Prim.Native.Nat.{ℕ, _*_, _≤_, _<_}
 use native.Mathlib.Omega.{arith}
@@ -89,8 +89,5 @@ module _ (book snapshot question : List ℕ) where
       serves {Refuses = λ (r : CheckReply) (n : ℕ). r ≡ record { refusal = n; taken = 0 }} {Answered = λ (r : CheckReply) (i : Input). Checks i words r}
       (ladder book snapshot question) refl (yes tt)
       (λ n. (record { refusal = n; taken = 0 }, refl))
-      (λ i e l. test (taken-decided i (ladder-read book snapshot question i e) words))
-    where
-      test : {i : Input} → Dec (CertificateInput i words) → (r : CheckReply) × Checks i words r
-      test (yes t) = (record { refusal = 0; taken = 1 }, Checks.takes t refl)
-      test (no n) = (record { refusal = 0; taken = 0 }, Checks.takes-not n refl)
+      (λ i e l. by-cases (taken-decided i (ladder-read book snapshot question i e) words)
+      (λ t. (record { refusal = 0; taken = 1 }, Checks.takes t refl)) (λ n. (record { refusal = 0; taken = 0 }, Checks.takes-not n refl)))

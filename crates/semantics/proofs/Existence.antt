@@ -99,16 +99,12 @@ module _ (ruleSet : RuleSet) (heap : Heap) (values : List ℕ) where
   take-in f need called fs g n m r = record {
     facts = f ∷ r .facts;
     built = Built.more called g (λ h k. r .has h (Memᴰ·append-right (leave f need) k)) (λ k. n (r .within f k)) (r .built);
-    has = λ h k. has h k (ℕ-discrete f h);
+    has = λ h k. by-cases (ℕ-discrete f h) (λ e. List·Memᴰ·head (sym e)) (λ d. List·Memᴰ·tail (r .has h (Memᴰ·append-left called (leave-in f need h k d))));
     within = λ h k. ⊎-elim List·Memᴰ·head (λ i. List·Memᴰ·tail (r .within h i)) (List·Memᴰ·cases-cons k);
     used = λ h k. ⊎-elim (λ e. inl (Memᴰ·cast e m)) (λ i. ⊎-elim
         (λ c. ⊎-elim (λ l. inl (leave-out f need h l .0)) (λ l. inr (inl l)) (List·Memᴰ·append-cases (leave f need) c))
         (λ c. inr (inr c)) (r .used h i)) (List·Memᴰ·cases-cons k);
   }
-    where
-      has : (h : ℕ) → h among need → Dec (f ≡ h) → h among f ∷ r .facts
-      has h k (yes e) = List·Memᴰ·head (sym e)
-      has h k (no d) = List·Memᴰ·tail (r .has h (Memᴰ·append-left called (leave-in f need h k d)))
 
   prune : {fs : List ℕ} → Built fs → (need : List ℕ) → ((g : ℕ) → g among need → g among fs) → Pruned need fs
   prune Built.none need h = record { facts = []; built = Built.none; has = h; within = λ g m. m; used = λ g m. absurd (List·Memᴰ·not-nil m) }

@@ -6,7 +6,6 @@ use Prim.Native.Nat.{ℕ, _<_}
 use native.Mathlib.Omega.{arith}
 use native.Mathlib.Decide.{decLt}
 use lib.ListN.{length}
-use Rattle.semantics.specs.Lists.{_among_}
 use Rattle.semantics.specs.Heap.{wholeOf}
 use Rattle.semantics.specs.Formats.{Input, WellFormedInput}
 use Rattle.semantics.specs.Fact.{fact}
@@ -49,9 +48,4 @@ pub fits-decided : (i : Input) → WellFormedInput i → Dec (FitsInput i)
 fits-decided i h =
     let (r, xs, c) = completed-exists i h in
     let v = verdict (i .ruleSet) (i .heap) (i .values) (h .valid) (i .predicate) (h .counted) (c .after) (c .complete) in
-    step xs v (decIn (fact (domainOf i) (i .predicate) (i .values) (wholeOf (i .heap))) xs)
-  where
-    step : (xs : List ℕ) → ((fact (domainOf i) (i .predicate) (i .values) (wholeOf (i .heap)) among xs) ↔ FitsInput i)
-        → Dec (fact (domainOf i) (i .predicate) (i .values) (wholeOf (i .heap)) among xs) → Dec (FitsInput i)
-    step xs v (yes m) = yes (v .0 m)
-    step xs v (no n) = no (λ k. n (v .1 k))
+    by-cases (decIn (fact (domainOf i) (i .predicate) (i .values) (wholeOf (i .heap))) xs) (λ m. yes (v .0 m)) (λ n. no (λ k. n (v .1 k)))
