@@ -1,12 +1,14 @@
 -- Counting the marked places: each gets the next number, so the numbers rise with the places and none is left out.
 use mathlib.Core.List.{List}
 use mathlib.Core.Logic.{_≢_, ⊎-elim}
-use mathlib.Core.Path.{_≡_, refl, sym}
+use mathlib.Core.Path.{_≡_, refl}
 use Prim.Native.Nat.{ℕ, zero, suc, _≤_, _<_}
 use native.Mathlib.Omega.{arith}
 use native.Mathlib.Decide.{ℕ-discrete, decLt}
 use native.Mathlib.Nat.{eq-or-lt-of-le}
-use borrow.Author.Tests.{eq-eqb, ne-eqb}
+use borrow.Author.Tests.{eq-eqb, ne-eqb, lt-ltb, le-ltb}
+use lib.Dec.{ltb}
+use mathlib.Core.Bool.{true, false}
 use Rattle.builder.specs.Space.{markAt, count}
 
 module _ (space : List ℕ) where
@@ -48,22 +50,23 @@ module _ (space : List ℕ) where
       step (no n) (yes l) = absurd (omega (arith, count-apart j i l zj))
       step (no n) (no m) = omega arith
 
-  -- The place of a number.
-  pub record Numbered (n k : ℕ) : Type 0 where
-    pub place : ℕ
+  -- The place of number k among the first n: the last one below which no more than k are marked.
+  unfoldable pub placeOf : ℕ → ℕ → ℕ
+  placeOf zero k = 0
+  placeOf (suc n) k = elim (ltb k (count space n)) [ true ↦ placeOf n k | false ↦ n ]
+
+  pub record Numbered (n k place : ℕ) : Type 0 where
     pub within : place < n
     pub marked : markAt space place ≢ 0
     pub is : count space place ≡ k
 
-  pub count-onto : (n k : ℕ) → k < count space n → Numbered n k
-  unfolding count
-  count-onto zero k h = absurd (omega arith)
-  count-onto (suc n) k h = step (ℕ-discrete (markAt space n) 0) (ℕ-discrete k (count space n)) (count-onto n k)
+  pub numbered : (n k : ℕ) → k < count space n → Numbered n k (placeOf n k)
+  unfolding count placeOf
+  numbered zero k h = absurd (omega arith)
+  numbered (suc n) k h = step (decLt k (count space n)) (numbered n k)
     where
-      wider : Numbered n k → Numbered (suc n) k
-      wider r = record { place = r .place; within = omega (arith, r .within); marked = r .marked; is = r .is }
-
-      step : Dec (markAt space n ≡ 0) → Dec (k ≡ count space n) → (k < count space n → Numbered n k) → Numbered (suc n) k
-      step (yes e) d rec = wider (rec (omega (arith, count-free n e)))
-      step (no z) (yes e) rec = record { place = n; within = omega arith; marked = z; is = sym e }
-      step (no z) (no q) rec = wider (rec (omega (arith, count-marked n z)))
+      step : Dec (k < count space n) → (k < count space n → Numbered n k (placeOf n k)) → Numbered (suc n) k (placeOf (suc n) k)
+      step (yes l) rec = let r = rec l in rw (lt-ltb k (count space n) l, placeOf) (record { within = omega (arith, r .within); marked = r .marked; is = r .is })
+      step (no z) rec =
+          rw (le-ltb k (count space n) (omega arith), placeOf)
+          (record { within = omega arith; marked = λ e. omega (arith, count-free n e); is = omega (arith, count-more n .1) })

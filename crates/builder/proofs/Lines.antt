@@ -21,7 +21,7 @@ use Rattle.table.specs.Layered.{codeAt, roundAt}
 use Rattle.ground.specs.Grounded.{calledIn, calledAt, Grounded}
 use Rattle.builder.specs.Space.{markAt, positionsIn, namesIn, Earlier, Planned, count, lineOf, renamed}
 use Rattle.builder.specs.Plan.{Certifies}
-use Rattle.builder.proofs.Counting.{count-marked, count-rises, count-below, count-apart, count-same, Numbered, count-onto}
+use Rattle.builder.proofs.Counting.{count-marked, count-rises, count-below, count-apart, count-same, placeOf, Numbered, numbered}
 use Rattle.ground.proofs.Packed.{called-read, positive, positive-padded}
 
 -- The words have, for each marked place, a line with its fact, its positions and its called lines.
@@ -127,39 +127,40 @@ module _ (ruleSet : RuleSet) (heap : Heap) (domain table : List ℕ) (at : ℕ) 
     }
 
   -- the place of a line
-  place-of : (k : ℕ) → 1 ≤ k → k ≤ count space (suc at) → Numbered space (suc at) (k - 1)
-  place-of k low high = count-onto space (suc at) (k - 1) (omega arith)
+  abbrev placeFor : ℕ → ℕ
+  placeFor k = placeOf space (suc at) (k - 1)
+
+  place-of : (k : ℕ) → 1 ≤ k → k ≤ count space (suc at) → Numbered space (suc at) (k - 1) (placeFor k)
+  place-of k low high = numbered space (suc at) (k - 1) (omega arith)
 
   line-taken : (k : ℕ) → 1 ≤ k → k ≤ count space (suc at) → LineHolds ruleSet heap domain words k (positive (calledIn (ruleAt words k)))
   line-taken k low high =
       let r = place-of k low high in
-      let i : ℕ = r .place in
+      let i : ℕ = placeFor k in
       let upto : i ≤ at = omega (arith, r .within) in
       let g = d .grounds i upto (r .marked) in
       let e : lineFor space i ≡ k = omega (arith, r .is) in
       rw (← e) (rw (called-lines i upto (r .marked) g) (line-holds i upto (r .marked) g))
 
   -- the fact of a line
-  line-fact : (k : ℕ) → 1 ≤ k → k ≤ count space (suc at) → (r : Numbered space (suc at) (k - 1)) → factAt words k ≡ codeAt table (r .place)
-  line-fact k low high r =
-      let e : lineFor space (r .place) ≡ k = omega (arith, r .is) in
-      ap (factAt words) (sym e) ∙ d .facts (r .place) (omega (arith, r .within)) (r .marked)
+  line-fact : (k : ℕ) → 1 ≤ k → k ≤ count space (suc at) → factAt words k ≡ codeAt table (placeFor k)
+  line-fact k low high =
+      let r = place-of k low high in
+      let e : lineFor space (placeFor k) ≡ k = omega (arith, r .is) in
+      ap (factAt words) (sym e) ∙ d .facts (placeFor k) (omega (arith, r .within)) (r .marked)
+
+  places-rise : (j k : ℕ) → 1 ≤ j → j < k → k ≤ count space (suc at) → placeFor j < placeFor k
+  places-rise j k low less high = step (decLt (placeFor j) (placeFor k))
+    where
+      step : Dec (placeFor j < placeFor k) → placeFor j < placeFor k
+      step (yes l) = l
+      step (no z) = absurd (omega (arith, count-rises space (placeFor k) (placeFor j) (omega arith), place-of j low (omega arith) .is, place-of k (omega arith) high .is))
 
   -- no fact stands twice
   facts-once : (j k : ℕ) → 1 ≤ j → j < k → k ≤ count space (suc at) → factAt words j ≢ factAt words k
   facts-once j k low less high e =
-      let r = place-of j low (omega arith) in
-      let s = place-of k (omega arith) high in
-      let same : codeAt table (r .place) ≡ codeAt table (s .place) = sym (line-fact j low (omega arith) r) ∙ e ∙ line-fact k (omega arith) high s in
-      step r s same (decLt (r .place) (s .place)) (decLt (s .place) (r .place))
-    where
-      step : (r : Numbered space (suc at) (j - 1)) (s : Numbered space (suc at) (k - 1)) → codeAt table (r .place) ≡ codeAt table (s .place)
-          → Dec (r .place < s .place) → Dec (s .place < r .place) → ⊥
-      step r s same (yes l) q = d .differ (r .place) (s .place) l (omega (arith, s .within)) same
-      step r s same (no n) (yes l) = d .differ (s .place) (r .place) l (omega (arith, r .within)) (sym same)
-      step r s same (no n) (no m) =
-          let p : r .place ≡ s .place = omega arith in
-          omega (arith, sym (r .is) ∙ ap (count space) p ∙ s .is)
+      d .differ (placeFor j) (placeFor k) (places-rise j k low less high) (omega (arith, place-of k (omega arith) high .within))
+      (sym (line-fact j low (omega arith)) ∙ e ∙ line-fact k (omega arith) high)
 
   -- a line before the last is called from further down
   record CalledLater (k : ℕ) : Type 0 where
@@ -182,55 +183,19 @@ module _ (ruleSet : RuleSet) (heap : Heap) (domain table : List ℕ) (at : ℕ) 
             calls = rw (called-lines j upto marked g) (Memᴰ·map (lineFor space) in-places);
           }
 
-  -- ---- the lines in the table
-
-  pick : (k : ℕ) → Dec (k - 1 < count space (suc at)) → ℕ
-  pick k (yes l) = count-onto space (suc at) (k - 1) l .place
-  pick k (no z) = 0
-
-  picked : (k : ℕ) (d : Dec (k - 1 < count space (suc at))) → 1 ≤ k → k ≤ count space (suc at) → (r : Numbered space (suc at) (k - 1)) × (pick k d ≡ r .place)
-  unfolding pick
-  picked k (yes l) low high = (count-onto space (suc at) (k - 1) l, refl)
-  picked k (no z) low high = absurd (z (omega arith))
-
-  placeOf : ℕ → ℕ
-  placeOf k = pick k (decLt (k - 1) (count space (suc at)))
-
-  place-is : (k : ℕ) → 1 ≤ k → k ≤ count space (suc at) → (r : Numbered space (suc at) (k - 1)) × (placeOf k ≡ r .place)
-  unfolding placeOf
-  place-is k low high = picked k (decLt (k - 1) (count space (suc at))) low high
-
-  places-rise : (j k : ℕ) → 1 ≤ j → j < k → k ≤ count space (suc at) → placeOf j < placeOf k
-  places-rise j k low less high = step (place-is j low (omega arith)) (place-is k (omega arith) high)
-    where
-      step : (r : Numbered space (suc at) (j - 1)) × (placeOf j ≡ r .place) → (s : Numbered space (suc at) (k - 1)) × (placeOf k ≡ s .place) → placeOf j < placeOf k
-      step (r, e) (s, f) = apart (decLt (r .place) (s .place))
-        where
-          apart : Dec (r .place < s .place) → placeOf j < placeOf k
-          apart (yes l) = omega arith
-          apart (no z) = absurd (omega (arith, count-rises space (s .place) (r .place) (omega arith), r .is, s .is))
-
-  line-earlier-round : (k : ℕ) → 1 ≤ k → k ≤ count space (suc at) → (l : ℕ) → l among positive (calledIn (ruleAt words k)) → roundAt table (placeOf l) < roundAt table (placeOf k)
-  line-earlier-round k low high l m = step (place-is k low high)
-    where
-      step : (r : Numbered space (suc at) (k - 1)) × (placeOf k ≡ r .place) → roundAt table (placeOf l) < roundAt table (placeOf k)
-      step (r, e) =
-          let i : ℕ = r .place in
-          let upto : i ≤ at = omega (arith, r .within) in
-          let g = d .grounds i upto (r .marked) in
-          let is-line : lineFor space i ≡ k = omega (arith, r .is) in
-          let m′ : l among map (lineFor space) (g .places) = rw (← is-line, called-lines i upto (r .marked) g) at m in
-          let (j, h, q) = Memᴰ·of-map (lineFor space) (g .places) m′ in
-          let below : j < i = g .allowed j h .before in
-          let full : markAt space j ≢ 0 = place-marked i upto (r .marked) g j h in
-          let small : lineFor space j ≤ count space (suc at) = omega (arith, count-apart space j (suc at) (omega arith) full) in
-          called j l full q (omega arith) (g .allowed j h .round) e (place-is l (omega arith) (omega arith))
-        where
-          called : (j l : ℕ) → markAt space j ≢ 0 → lineFor space j ≡ l → 1 ≤ l → roundAt table j < roundAt table (r .place) → placeOf k ≡ r .place
-              → (s : Numbered space (suc at) (l - 1)) × (placeOf l ≡ s .place) → roundAt table (placeOf l) < roundAt table (placeOf k)
-          called j l full q one less e (s, f) =
-              let same : s .place ≡ j = count-same space (s .place) j (s .marked) full (s .is ∙ omega arith) in
-              rw (f ∙ same, e) less
+  line-earlier-round : (k : ℕ) → 1 ≤ k → k ≤ count space (suc at) → (l : ℕ) → l among positive (calledIn (ruleAt words k)) → roundAt table (placeFor l) < roundAt table (placeFor k)
+  line-earlier-round k low high l m =
+      let r = place-of k low high in
+      let i : ℕ = placeFor k in
+      let upto : i ≤ at = omega (arith, r .within) in
+      let g = d .grounds i upto (r .marked) in
+      let is-line : lineFor space i ≡ k = omega (arith, r .is) in
+      let m′ : l among map (lineFor space) (g .places) = rw (← is-line, called-lines i upto (r .marked) g) at m in
+      let (j, h, q) = Memᴰ·of-map (lineFor space) (g .places) m′ in
+      let full : markAt space j ≢ 0 = place-marked i upto (r .marked) g j h in
+      let s = place-of l (omega arith) (omega (arith, g .allowed j h .before, count-apart space j (suc at) (omega (arith, g .allowed j h .before)) full)) in
+      let same : placeFor l ≡ j = count-same space (placeFor l) j (s .marked) full (s .is ∙ omega arith) in
+      rw same (g .allowed j h .round)
 
   -- The certificate.
   pub certifies : (p : ℕ) (values : List ℕ) (part : ℕ) → codeAt table at ≡ fact domain p values part → (size lines : ℕ) (final : List ℕ) → final ≡ padded size words
@@ -253,15 +218,15 @@ module _ (ruleSet : RuleSet) (heap : Heap) (domain table : List ℕ) (at : ℕ) 
           once = facts-once;
           used = λ k low less.
               let r = place-of k low (omega arith) in
-              let e : lineFor space (r .place) ≡ k = omega (arith, r .is) in
-              let before : r .place < at = not-last (r .place) (omega (arith, r .within)) (omega (arith, r .is)) in
-              let c = called-later (r .place) before (r .marked) in
+              let e : lineFor space (placeFor k) ≡ k = omega (arith, r .is) in
+              let before : placeFor k < at = not-last (placeFor k) (omega (arith, r .within)) (omega (arith, r .is)) in
+              let c = called-later (placeFor k) before (r .marked) in
               (c .line, omega (arith, c .later), c .within, Memᴰ·cast (sym e) (c .calls));
         };
         counted = counted;
         from-table = record {
-          place = placeOf;
-          facts = λ k low high. let (r, e) = place-is k low high in (omega (arith, r .within), line-fact k low high r ∙ ap (codeAt table) (sym e));
+          place = placeFor;
+          facts = λ k low high. (omega (arith, place-of k low high .within), line-fact k low high);
           ordered = places-rise;
           earlier = line-earlier-round;
         };

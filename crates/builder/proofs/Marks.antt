@@ -1,14 +1,12 @@
--- Marks and line numbers by place, as the code indexes them, and what a store leaves of the three words of each place.
+-- Marks and line numbers by place, as the code indexes them.
 use mathlib.Core.List.{List, [], _∷_, map}
 use mathlib.Core.Logic.{_≢_}
 use mathlib.Core.Path.{_≡_, refl, ap}
 use Prim.Native.Nat.{ℕ, zero, suc, _+_, _-_, _*_, _%_, _<_}
 use native.Mathlib.Omega.{arith}
 use lib.ListN.{getD, set}
-use lib.Seq.{getD-set-other}
 use Rattle.semantics.specs.Lists.{digits, digitsOf}
 use Rattle.ground.specs.Grounded.{calledIn, calledAt}
-use Rattle.builder.specs.Space.{markAt, positionsIn, namesIn}
 use Rattle.builder.specs.Steps.{marking, numberAt}
 
 pub marking-at : (space : List ℕ) (c : ℕ) → 0 < c → set space (3 * c - 3) 1 ≡ marking space c
@@ -34,32 +32,3 @@ pub renamed-is : (space : List ℕ) (names : ℕ) {rule a b c x y z : ℕ} → r
     → b ≡ numberAt space y → y ≡ calledAt names 1 → c ≡ numberAt space z → z ≡ calledAt names 2
     → rule + 256 * digits 65536 (a ∷ b ∷ c ∷ []) ≡ names % 256 + 256 * digits 65536 (map (numberAt space) (calledIn names))
 renamed-is space names r a x b y c z = cc (renamed-by-one space names)
-
--- What a store leaves of the other words.
-module _ (space : List ℕ) (i j x : ℕ) where
-  pub mark-other : j ≢ i → markAt (set space (3 * i) x) j ≡ markAt space j
-  mark-other n = getD-set-other space (3 * i) (3 * j) x 0 (λ e. n (omega arith))
-
-  pub mark-positions : positionsIn (set space (3 * i) x) j ≡ positionsIn space j
-  mark-positions = getD-set-other space (3 * i) (3 * j + 1) x 0 (λ e. omega arith)
-
-  pub mark-names : namesIn (set space (3 * i) x) j ≡ namesIn space j
-  mark-names = getD-set-other space (3 * i) (3 * j + 2) x 0 (λ e. omega arith)
-
-  pub positions-marks : markAt (set space (3 * i + 1) x) j ≡ markAt space j
-  positions-marks = getD-set-other space (3 * i + 1) (3 * j) x 0 (λ e. omega arith)
-
-  pub positions-other : j ≢ i → positionsIn (set space (3 * i + 1) x) j ≡ positionsIn space j
-  positions-other n = getD-set-other space (3 * i + 1) (3 * j + 1) x 0 (λ e. n (omega arith))
-
-  pub positions-names : namesIn (set space (3 * i + 1) x) j ≡ namesIn space j
-  positions-names = getD-set-other space (3 * i + 1) (3 * j + 2) x 0 (λ e. omega arith)
-
-  pub names-marks : markAt (set space (3 * i + 2) x) j ≡ markAt space j
-  names-marks = getD-set-other space (3 * i + 2) (3 * j) x 0 (λ e. omega arith)
-
-  pub names-positions : positionsIn (set space (3 * i + 2) x) j ≡ positionsIn space j
-  names-positions = getD-set-other space (3 * i + 2) (3 * j + 1) x 0 (λ e. omega arith)
-
-  pub names-other : j ≢ i → namesIn (set space (3 * i + 2) x) j ≡ namesIn space j
-  names-other n = getD-set-other space (3 * i + 2) (3 * j + 2) x 0 (λ e. n (omega arith))

@@ -6,14 +6,13 @@ use Prim.Native.Nat.{ℕ, suc, _+_, _*_, _/_, _%_, _≤_, _<_}
 use native.Mathlib.Omega.{arith}
 use native.Mathlib.Nat.{eq-or-lt-of-le, mod-eq-of-lt}
 use lib.ListN.{length, getD, set, length-set}
-use lib.Seq.{getD-set-same}
+use lib.Seq.{getD-set-same, getD-set-other}
 use Rattle.semantics.specs.Lists.{digits}
 use Rattle.semantics.proofs.Digits.{digitsOf-length}
 use Rattle.ground.specs.Grounded.{calledIn, calledAt}
 use Rattle.builder.specs.Space.{markAt, positionsIn, namesIn, count, lineOf, renamed}
 use Rattle.builder.specs.Steps.{numberAt, Numberable, Named}
 use Rattle.builder.proofs.Counting.{count-marked, count-free, count-below}
-use Rattle.builder.proofs.Marks.{mark-other, mark-positions, mark-names, names-marks, names-positions, names-other}
 
 -- The places below i are numbered.
 pub record NumberedTo (at : ℕ) (before : List ℕ) (i : ℕ) (after : List ℕ) (lines : ℕ) : Type 0 where
@@ -100,7 +99,7 @@ module _ (at : ℕ) (before : List ℕ) (ready : Numberable at before) where
     pub called-inside : markAt after i ≢ 0 → (k : ℕ) → k < 3 → 3 * calledAt (namesIn numbered i) k ≤ length numbered
     called-inside z k l =
         let full : markAt before i ≢ 0 = λ e. z (r .marks-rest i (omega arith) ∙ e) in
-        let same : namesIn numbered i ≡ namesIn before i = mark-names after i i (lines + 1) ∙ r .names-rest i (omega arith) in
+        let same : namesIn numbered i ≡ namesIn before i = getD-set-other after (3 * i) (3 * i + 2) (lines + 1) 0 (λ e. omega arith) ∙ r .names-rest i (omega arith) in
         let e : calledAt (namesIn numbered i) k ≡ calledAt (namesIn before i) k = ap (λ (w : ℕ). calledAt w k) same in
         let long : length numbered ≡ length before = length-set after (3 * i) (lines + 1) ∙ r .long in
         ⊎-elim (λ (q : calledAt (namesIn before i) k ≡ 0). omega arith) (λ w. omega (arith, w .1, w .3, ready .inside)) (ready .planned .calls i upto full k l)
@@ -112,18 +111,18 @@ module _ (at : ℕ) (before : List ℕ) (ready : Numberable at before) where
         let one : i + 1 ≡ suc i = omega arith in
         let full : markAt before i ≢ 0 = λ e. z (r .marks-rest i (omega arith) ∙ e) in
         let inside : 3 * i + 2 < length after = omega (arith, r .long, ready .inside) in
-        let same : namesIn numbered i ≡ namesIn before i = mark-names after i i (lines + 1) ∙ r .names-rest i (omega arith) in
+        let same : namesIn numbered i ≡ namesIn before i = getD-set-other after (3 * i) (3 * i + 2) (lines + 1) 0 (λ e. omega arith) ∙ r .names-rest i (omega arith) in
         let renaming : word ≡ renamed before (namesIn before i) =
         is ∙ ap (λ (w : ℕ). w % 256 + 256 * digits 65536 (map (numberAt numbered) (calledIn w))) same
         ∙ ap (λ (xs : List ℕ). namesIn before i % 256 + 256 * digits 65536 xs)
-        (called-lines numbered (λ j l. mark-other after i j (lines + 1) (λ e. omega arith)) full) in
+        (called-lines numbered (λ j l. getD-set-other after (3 * i) (3 * j) (lines + 1) 0 (λ e. omega arith)) full) in
         let here : (j : ℕ) → j ≡ i → markAt (set numbered (3 * i + 2) word) j ≡ suc (count before j) = λ j q.
-        names-marks numbered i j word ∙ ap (markAt numbered) q ∙ getD-set-same after (3 * i) (lines + 1) 0 (omega arith)
+        getD-set-other numbered (3 * i + 2) (3 * j) word 0 (λ e. omega arith) ∙ ap (markAt numbered) q ∙ getD-set-same after (3 * i) (lines + 1) 0 (omega arith)
         ∙ omega (arith, r .counted, ap (count before) q) in
         let there : (j : ℕ) → j ≢ i → markAt (set numbered (3 * i + 2) word) j ≡ markAt after j = λ j n.
-        names-marks numbered i j word ∙ mark-other after i j (lines + 1) n in
+        getD-set-other numbered (3 * i + 2) (3 * j) word 0 (λ e. omega arith) ∙ getD-set-other after (3 * i) (3 * j) (lines + 1) 0 (λ e. n (omega arith)) in
         let there-names : (j : ℕ) → j ≢ i → namesIn (set numbered (3 * i + 2) word) j ≡ namesIn after j = λ j n.
-        names-other numbered i j word n ∙ mark-names after i j (lines + 1) in
+        getD-set-other numbered (3 * i + 2) (3 * j + 2) word 0 (λ e. n (omega arith)) ∙ getD-set-other after (3 * i) (3 * j + 2) (lines + 1) 0 (λ e. omega arith) in
         record {
           upto = omega arith;
           small = omega (arith, r .small);
@@ -132,7 +131,7 @@ module _ (at : ℕ) (before : List ℕ) (ready : Numberable at before) where
           free = λ j h e. ⊎-elim (λ (q : j ≡ i). absurd (full (ap (markAt before) (sym q) ∙ e)))
               (λ (l : j < i). there j (λ q. omega arith) ∙ r .free j l e) (eq-or-lt-of-le (omega arith));
           marked = λ j h n. ⊎-elim (here j) (λ (l : j < i). there j (λ q. omega arith) ∙ r .marked j l n) (eq-or-lt-of-le (omega arith));
-          positions = λ j. names-positions numbered i j word ∙ mark-positions after i j (lines + 1) ∙ r .positions j;
+          positions = λ j. getD-set-other numbered (3 * i + 2) (3 * j + 1) word 0 (λ e. omega arith) ∙ getD-set-other after (3 * i) (3 * j + 1) (lines + 1) 0 (λ e. omega arith) ∙ r .positions j;
           names = λ j h n. ⊎-elim
               (λ (q : j ≡ i). ap (namesIn (set numbered (3 * i + 2) word)) q
               ∙ getD-set-same numbered (3 * i + 2) word 0 (omega (arith, length-set after (3 * i) (lines + 1))) ∙ renaming ∙ ap (λ (x : ℕ). renamed before (namesIn before x)) (sym q))

@@ -8,12 +8,11 @@ use native.Mathlib.Omega.{arith}
 use native.Mathlib.Decide.{ℕ-discrete}
 use native.Mathlib.Nat.{eq-or-lt-of-le}
 use lib.ListN.{length, getD, set, length-set}
-use lib.Seq.{getD-set-same}
+use lib.Seq.{getD-set-same, getD-set-other}
 use Rattle.ground.specs.Grounded.{calledAt}
 use Rattle.builder.specs.Space.{markAt, positionsIn, namesIn}
 use Rattle.builder.specs.Steps.{marking}
 use Rattle.builder.specs.Plan.{GroundedAt, visiting, Visited, Plans}
-use Rattle.builder.proofs.Marks.{mark-other, mark-positions, mark-names, positions-marks, positions-other, positions-names, names-marks, names-positions, names-other}
 
 -- three stores of marks, one after the other
 pub three-marks : (start : List ℕ) {a b c : List ℕ} (i j k : ℕ) → a ≡ marking start i → b ≡ marking a j → c ≡ marking b k → c ≡ marking (marking (marking start i) j) k
@@ -31,11 +30,11 @@ module _ (space : List ℕ) where
 
   marking-positions : (c j : ℕ) → positionsIn (marking space c) j ≡ positionsIn space j
   marking-positions zero j = refl
-  marking-positions (suc i) j = mark-positions space i j 1
+  marking-positions (suc i) j = getD-set-other space (3 * i) (3 * j + 1) 1 0 (λ e. omega arith)
 
   marking-names : (c j : ℕ) → namesIn (marking space c) j ≡ namesIn space j
   marking-names zero j = refl
-  marking-names (suc i) j = mark-names space i j 1
+  marking-names (suc i) j = getD-set-other space (3 * i) (3 * j + 2) 1 0 (λ e. omega arith)
 
   marking-here : (c j : ℕ) → c ≡ suc j → 3 * j < length space → markAt (marking space c) j ≡ 1
   marking-here zero j e l = absurd (omega arith)
@@ -45,7 +44,7 @@ module _ (space : List ℕ) where
 
   marking-other : (c j : ℕ) → c ≢ suc j → markAt (marking space c) j ≡ markAt space j
   marking-other zero j z = refl
-  marking-other (suc i) j z = mark-other space i j 1 (λ e. z (ap suc (sym e)))
+  marking-other (suc i) j z = getD-set-other space (3 * i) (3 * j) 1 0 (λ e. z (omega arith))
 
 -- a place after a visit: as it was, or called
 data After (space : List ℕ) (names : ℕ) (after : List ℕ) (j : ℕ) : Type 0 where
@@ -67,16 +66,16 @@ module _ (space : List ℕ) (i positions names : ℕ) (inside : 3 * i + 3 ≤ le
 
   positions-here : positionsIn (visiting space i positions names) i ≡ positions
   positions-here =
-      marked-positions i ∙ names-positions (set space (3 * i + 1) positions) i i names ∙ getD-set-same space (3 * i + 1) positions 0 (omega arith)
+      marked-positions i ∙ getD-set-other (set space (3 * i + 1) positions) (3 * i + 2) (3 * i + 1) names 0 (λ e. omega arith) ∙ getD-set-same space (3 * i + 1) positions 0 (omega arith)
 
   positions-there : (j : ℕ) → j ≢ i → positionsIn (visiting space i positions names) j ≡ positionsIn space j
-  positions-there j z = marked-positions j ∙ names-positions (set space (3 * i + 1) positions) i j names ∙ positions-other space i j positions z
+  positions-there j z = marked-positions j ∙ getD-set-other (set space (3 * i + 1) positions) (3 * i + 2) (3 * j + 1) names 0 (λ e. omega arith) ∙ getD-set-other space (3 * i + 1) (3 * j + 1) positions 0 (λ e. z (omega arith))
 
   names-here : namesIn (visiting space i positions names) i ≡ names
   names-here = marked-names i ∙ getD-set-same (set space (3 * i + 1) positions) (3 * i + 2) names 0 (simp length-set (omega arith))
 
   names-there : (j : ℕ) → j ≢ i → namesIn (visiting space i positions names) j ≡ namesIn space j
-  names-there j z = marked-names j ∙ names-other (set space (3 * i + 1) positions) i j names z ∙ positions-names space i j positions
+  names-there j z = marked-names j ∙ getD-set-other (set space (3 * i + 1) positions) (3 * i + 2) (3 * j + 2) names 0 (λ e. z (omega arith)) ∙ getD-set-other space (3 * i + 1) (3 * j + 2) positions 0 (λ e. omega arith)
 
   visited-mark : (j : ℕ) → After space names (visiting space i positions names) j
   visited-mark j = step (ℕ-discrete (calledAt names 0) (suc j)) (ℕ-discrete (calledAt names 1) (suc j)) (ℕ-discrete (calledAt names 2) (suc j))
@@ -103,7 +102,7 @@ module _ (space : List ℕ) (i positions names : ℕ) (inside : 3 * i + 3 ≤ le
           ∙ marking-here (set (set space (3 * i + 1) positions) (3 * i + 2) names) (calledAt names 0) j e (omega (arith, written-long space i positions names, room 0 (omega arith) e)))
       step (no x) (no y) (no z) = After.same
           (marking-other two (calledAt names 2) j z ∙ marking-other one (calledAt names 1) j y ∙ marking-other (set (set space (3 * i + 1) positions) (3 * i + 2) names) (calledAt names 0) j x
-          ∙ names-marks (set space (3 * i + 1) positions) i j names ∙ positions-marks space i j positions)
+          ∙ getD-set-other (set space (3 * i + 1) positions) (3 * i + 2) (3 * j) names 0 (λ e. omega arith) ∙ getD-set-other space (3 * i + 1) (3 * j) positions 0 (λ e. omega arith))
           none
         where
           none : (k : ℕ) → k < 3 → calledAt names k ≢ suc j
@@ -152,7 +151,7 @@ module _ {rules records : List ℕ} {n : ℕ} {table : List ℕ} {at : ℕ} wher
     upto = omega arith;
     root = λ e. omega (arith, getD-set-same space (3 * at) 1 0 l);
     calls = λ j h k. absurd (omega arith);
-    used = λ j h z. absurd (z (mark-other space at j 1 (λ e. omega arith) ∙ zeros j h));
+    used = λ j h z. absurd (z (getD-set-other space (3 * at) (3 * j) 1 0 (λ e. omega arith) ∙ zeros j h));
     grounds = λ j h k. absurd (omega arith);
   }
 
