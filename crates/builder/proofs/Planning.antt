@@ -28,13 +28,10 @@ module _ (space : List ℕ) where
   marking-long zero = refl
   marking-long (suc j) = length-set space (3 * j) 1
 
-  marking-positions : (c j : ℕ) → positionsIn (marking space c) j ≡ positionsIn space j
-  marking-positions zero j = refl
-  marking-positions (suc i) j = getD-set-other space (3 * i) (3 * j + 1) 1 0 (λ e. omega arith)
-
-  marking-names : (c j : ℕ) → namesIn (marking space c) j ≡ namesIn space j
-  marking-names zero j = refl
-  marking-names (suc i) j = getD-set-other space (3 * i) (3 * j + 2) 1 0 (λ e. omega arith)
+  -- a word that is no mark
+  marking-kept : (c q : ℕ) → ((m : ℕ) → q ≢ 3 * m) → getD (marking space c) q 0 ≡ getD space q 0
+  marking-kept zero q z = refl
+  marking-kept (suc i) q z = getD-set-other space (3 * i) q 1 0 (z i)
 
   marking-here : (c j : ℕ) → c ≡ suc j → 3 * j < length space → markAt (marking space c) j ≡ 1
   marking-here zero j e l = absurd (omega arith)
@@ -52,42 +49,38 @@ data After (space : List ℕ) (names : ℕ) (after : List ℕ) (j : ℕ) : Type 
   called : (k : ℕ) → k < 3 → calledAt names k ≡ suc j → markAt after j ≡ 1 → After space names after j
 
 module _ (space : List ℕ) (i positions names : ℕ) (inside : 3 * i + 3 ≤ length space) (within : (k : ℕ) → k < 3 → calledAt names k ≤ i) where
-  marked-positions : (j : ℕ) → positionsIn (visiting space i positions names) j ≡ positionsIn (set (set space (3 * i + 1) positions) (3 * i + 2) names) j
-  marked-positions j =
-      marking-positions (marking (marking (set (set space (3 * i + 1) positions) (3 * i + 2) names) (calledAt names 0)) (calledAt names 1)) (calledAt names 2) j
-      ∙ marking-positions (marking (set (set space (3 * i + 1) positions) (3 * i + 2) names) (calledAt names 0)) (calledAt names 1) j
-      ∙ marking-positions (set (set space (3 * i + 1) positions) (3 * i + 2) names) (calledAt names 0) j
+  abbrev written : List ℕ
+  written = set (set space (3 * i + 1) positions) (3 * i + 2) names
 
-  marked-names : (j : ℕ) → namesIn (visiting space i positions names) j ≡ namesIn (set (set space (3 * i + 1) positions) (3 * i + 2) names) j
-  marked-names j =
-      marking-names (marking (marking (set (set space (3 * i + 1) positions) (3 * i + 2) names) (calledAt names 0)) (calledAt names 1)) (calledAt names 2) j
-      ∙ marking-names (marking (set (set space (3 * i + 1) positions) (3 * i + 2) names) (calledAt names 0)) (calledAt names 1) j
-      ∙ marking-names (set (set space (3 * i + 1) positions) (3 * i + 2) names) (calledAt names 0) j
+  visited-kept : (q : ℕ) → ((m : ℕ) → q ≢ 3 * m) → getD (visiting space i positions names) q 0 ≡ getD written q 0
+  visited-kept q z =
+      marking-kept (marking (marking written (calledAt names 0)) (calledAt names 1)) (calledAt names 2) q z
+      ∙ marking-kept (marking written (calledAt names 0)) (calledAt names 1) q z ∙ marking-kept written (calledAt names 0) q z
 
   positions-here : positionsIn (visiting space i positions names) i ≡ positions
   positions-here =
-      marked-positions i ∙ getD-set-other (set space (3 * i + 1) positions) (3 * i + 2) (3 * i + 1) names 0 (λ e. omega arith) ∙ getD-set-same space (3 * i + 1) positions 0 (omega arith)
+      visited-kept (3 * i + 1) (λ m e. omega arith) ∙ getD-set-other (set space (3 * i + 1) positions) (3 * i + 2) (3 * i + 1) names 0 (λ e. omega arith) ∙ getD-set-same space (3 * i + 1) positions 0 (omega arith)
 
   positions-there : (j : ℕ) → j ≢ i → positionsIn (visiting space i positions names) j ≡ positionsIn space j
-  positions-there j z = marked-positions j ∙ getD-set-other (set space (3 * i + 1) positions) (3 * i + 2) (3 * j + 1) names 0 (λ e. omega arith) ∙ getD-set-other space (3 * i + 1) (3 * j + 1) positions 0 (λ e. z (omega arith))
+  positions-there j z = visited-kept (3 * j + 1) (λ m e. omega arith) ∙ getD-set-other (set space (3 * i + 1) positions) (3 * i + 2) (3 * j + 1) names 0 (λ e. omega arith) ∙ getD-set-other space (3 * i + 1) (3 * j + 1) positions 0 (λ e. z (omega arith))
 
   names-here : namesIn (visiting space i positions names) i ≡ names
-  names-here = marked-names i ∙ getD-set-same (set space (3 * i + 1) positions) (3 * i + 2) names 0 (simp length-set (omega arith))
+  names-here = visited-kept (3 * i + 2) (λ m e. omega arith) ∙ getD-set-same (set space (3 * i + 1) positions) (3 * i + 2) names 0 (simp length-set (omega arith))
 
   names-there : (j : ℕ) → j ≢ i → namesIn (visiting space i positions names) j ≡ namesIn space j
-  names-there j z = marked-names j ∙ getD-set-other (set space (3 * i + 1) positions) (3 * i + 2) (3 * j + 2) names 0 (λ e. z (omega arith)) ∙ getD-set-other space (3 * i + 1) (3 * j + 2) positions 0 (λ e. omega arith)
+  names-there j z = visited-kept (3 * j + 2) (λ m e. omega arith) ∙ getD-set-other (set space (3 * i + 1) positions) (3 * i + 2) (3 * j + 2) names 0 (λ e. z (omega arith)) ∙ getD-set-other space (3 * i + 1) (3 * j + 2) positions 0 (λ e. omega arith)
 
   visited-mark : (j : ℕ) → After space names (visiting space i positions names) j
   visited-mark j = step (ℕ-discrete (calledAt names 0) (suc j)) (ℕ-discrete (calledAt names 1) (suc j)) (ℕ-discrete (calledAt names 2) (suc j))
     where
       one : List ℕ
-      one = marking (set (set space (3 * i + 1) positions) (3 * i + 2) names) (calledAt names 0)
+      one = marking written (calledAt names 0)
 
       two : List ℕ
-      two = marking (marking (set (set space (3 * i + 1) positions) (3 * i + 2) names) (calledAt names 0)) (calledAt names 1)
+      two = marking one (calledAt names 1)
 
       one-long : length one ≡ length space
-      one-long = marking-long (set (set space (3 * i + 1) positions) (3 * i + 2) names) (calledAt names 0) ∙ written-long space i positions names
+      one-long = marking-long written (calledAt names 0) ∙ written-long space i positions names
 
       two-long : length two ≡ length space
       two-long = marking-long one (calledAt names 1) ∙ one-long
@@ -99,9 +92,9 @@ module _ (space : List ℕ) (i positions names : ℕ) (inside : 3 * i + 3 ≤ le
       step a b (yes e) = After.called 2 (omega arith) e (marking-here two (calledAt names 2) j e (omega (arith, two-long, room 2 (omega arith) e)))
       step a (yes e) (no z) = After.called 1 (omega arith) e (marking-other two (calledAt names 2) j z ∙ marking-here one (calledAt names 1) j e (omega (arith, one-long, room 1 (omega arith) e)))
       step (yes e) (no y) (no z) = After.called 0 (omega arith) e (marking-other two (calledAt names 2) j z ∙ marking-other one (calledAt names 1) j y
-          ∙ marking-here (set (set space (3 * i + 1) positions) (3 * i + 2) names) (calledAt names 0) j e (omega (arith, written-long space i positions names, room 0 (omega arith) e)))
+          ∙ marking-here written (calledAt names 0) j e (omega (arith, written-long space i positions names, room 0 (omega arith) e)))
       step (no x) (no y) (no z) = After.same
-          (marking-other two (calledAt names 2) j z ∙ marking-other one (calledAt names 1) j y ∙ marking-other (set (set space (3 * i + 1) positions) (3 * i + 2) names) (calledAt names 0) j x
+          (marking-other two (calledAt names 2) j z ∙ marking-other one (calledAt names 1) j y ∙ marking-other written (calledAt names 0) j x
           ∙ getD-set-other (set space (3 * i + 1) positions) (3 * i + 2) (3 * j) names 0 (λ e. omega arith) ∙ getD-set-other space (3 * i + 1) (3 * j) positions 0 (λ e. omega arith))
           none
         where
