@@ -28,15 +28,12 @@ below-then short off n next h k = alike _ (λ bs. assoc (byte short bs) (λ b. e
 
 -- a number from m to m is m
 exact-test : (m b : ℕ) (bytes : List ℕ) → ensure (eqb b m) 9 b bytes ≡ onward (ensure (leb m b) 9 b bytes) (λ l. ensure (leb l m) 9 l)
-exact-test m b bytes = first (decLt b m)
+exact-test m b bytes = go (decLt b m) (decLt m b)
   where
-    second : (b < m → ⊥) → Dec (m < b) → ensure (eqb b m) 9 b bytes ≡ onward (ensure (leb m b) 9 b bytes) (λ l. ensure (leb l m) 9 l)
-    second n (yes l) = rw (ne-eqb b m (λ e. omega arith), le-leb m b (omega arith), lt-leb b m l)
-    second n (no l) = rw (eq-eqb b m (omega arith), le-leb m b (omega arith), le-leb b m (omega arith))
-
-    first : Dec (b < m) → ensure (eqb b m) 9 b bytes ≡ onward (ensure (leb m b) 9 b bytes) (λ l. ensure (leb l m) 9 l)
-    first (yes l) = rw (ne-eqb b m (λ e. omega arith), lt-leb m b l)
-    first (no l) = second l (decLt m b)
+    go : Dec (b < m) → Dec (m < b) → ensure (eqb b m) 9 b bytes ≡ onward (ensure (leb m b) 9 b bytes) (λ l. ensure (leb l m) 9 l)
+    go (yes l) k = rw (ne-eqb b m (λ e. omega arith), lt-leb m b l)
+    go (no l) (yes k) = rw (ne-eqb b m (λ e. omega arith), le-leb m b (omega arith), lt-leb b m k)
+    go (no l) (no k) = rw (eq-eqb b m (omega arith), le-leb m b (omega arith), le-leb b m (omega arith))
 
 exact-then : {A : Type 0} {bytes : List ℕ} {c c₁ c₂ : Cursor} {v : ℕ} {a : A} (m : ℕ) (next : ℕ → Reader A)
     → Yields (rangedByte 9 9 m m) bytes c c₁ v → Yields (next v) bytes c₁ c₂ a
@@ -65,6 +62,3 @@ first-stored q x y l = getD-set-other (set q 0 x) 1 0 y 0 (λ e. omega arith) �
 
 pub second-stored : (q : List ℕ) (x y : ℕ) → length q ≡ 6 → getD (set (set q 0 x) 1 y) 1 0 ≡ y
 second-stored q x y l = getD-set-same (set q 0 x) 1 y 0 (rw (length-set q 0 x) (omega arith))
-
-pub stored-long : (q : List ℕ) (x y : ℕ) → length (set (set q 0 x) 1 y) ≡ length q
-stored-long q x y = length-set (set q 0 x) 1 y ∙ length-set q 0 x

@@ -1,7 +1,7 @@
 -- Readers one after the other, from cursor to cursor: what each yields makes what the chain yields. A fault on the way stays to the end,
 -- since reading on from a fault is that fault.
 use mathlib.Core.Bool.{Bool, true, false}
-use mathlib.Core.Path.{_≡_, refl, ap, _∙_}
+use mathlib.Core.Path.{_≡_, refl, sym, ap, fun-ext, _∙_}
 use mathlib.Core.List.{List}
 use Prim.Native.Nat.{ℕ}
 use Rattle.semantics.specs.Reader.{Got, got, fault, Reader, onward, _>>=_, give, ensure}
@@ -54,8 +54,4 @@ turn e h = rw e at h
 
 pub alike : {A : Type 0} {bytes : List ℕ} {c c′ : Cursor} {read : Reader A} {a : A} (other : Reader A) → ((bs : List ℕ) → other bs ≡ read bs)
     → Yields read bytes c c′ a → Yields other bytes c c′ a
-alike {A} {bytes} {c} {c′} {read} {a} other same h = record { is = go c ∙ h .is }
-  where
-    go : (c : Cursor) → on bytes c other ≡ on bytes c read
-    go (At at) = same _
-    go (Fault n) = refl
+alike other same h = turn (fun-ext (λ bs. sym (same bs))) h

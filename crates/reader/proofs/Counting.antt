@@ -9,7 +9,7 @@ use lib.Dec.{leb}
 use Rattle.semantics.specs.Reader.{Got, got, fault, Reader, onward, _>>=_, give, byte, ensure, times, counted}
 use Rattle.reader.specs.Cursor.{Yields, rangedByte}
 use Rattle.reader.specs.declared.Cursor.{Cursor}
-use Rattle.reader.proofs.Chain.{chain, done, alike}
+use Rattle.reader.proofs.Chain.{assoc, chain, done, turn, alike}
 
 unfoldable pub threaded : {S A : Type 0} → ℕ → S → (S → Reader A) → (A → S) → Reader (List A)
 threaded zero s read next = give []
@@ -35,14 +35,9 @@ module _ {S A : Type 0} (read : S → Reader A) (next : A → S) where
     x ← read (left s next xs)
     give (xs ++ (x ∷ []))
 
-  after : (s : S) (a : A) (xs : List A) (bytes : List ℕ) (r : Got A) → r ≡ read (left (next a) next xs) bytes
-      → onward (onward r (λ x. give (xs ++ (x ∷ [])))) (λ rest. give (a ∷ rest)) ≡ onward r (λ x. give (a ∷ (xs ++ (x ∷ []))))
-  after s a xs bytes (got x rest) e = refl
-  after s a xs bytes (fault n) e = refl
-
   middle : (s : S) (a : A) (r : Got (List A)) → onward (onward r (then (next a))) (λ rest. give (a ∷ rest)) ≡ onward (onward r (λ rest. give (a ∷ rest))) (then s)
   unfolding left
-  middle s a (got xs bytes) = after s a xs bytes (read (left (next a) next xs) bytes) refl
+  middle s a (got xs bytes) = sym (assoc (read (left (next a) next xs) bytes) (λ x. give (xs ++ (x ∷ []))) (λ rest. give (a ∷ rest)))
   middle s a (fault n) = refl
 
   pub last : (n : ℕ) (s : S) (bytes : List ℕ) → threaded (suc n) s read next bytes ≡ onward (threaded n s read next bytes) (then s)
@@ -66,24 +61,18 @@ module _ {S A : Type 0} (read : S → Reader A) (next : A → S) where
   threaded-more {bytes} {c₀} {c} {c′} k s xs x h e = alike _ (last k s) (chain (then s) h (chain _ e (done bytes c′ _)))
 
 module _ {A : Type 0} (read : Reader A) where
-  times-threaded : (n : ℕ) (bytes : List ℕ) → times n read bytes ≡ threaded n (tt {0}) (λ _. read) (λ _. tt {0}) bytes
+  times-threaded : (n : ℕ) → threaded n (tt {0}) (λ _. read) (λ _. tt {0}) ≡ times n read
   unfolding times threaded
-  times-threaded zero bytes = refl
-  times-threaded (suc n) bytes = step (read bytes) (times-threaded n)
-    where
-      step : (r : Got A) → ((rest : List ℕ) → times n read rest ≡ threaded n (tt {0}) (λ _. read) (λ _. tt {0}) rest)
-          → onward r (λ a. _>>=_ (times n read) (λ rest. give (a ∷ rest)))
-          ≡ onward r (λ a. _>>=_ (threaded n (tt {0}) (λ _. read) (λ _. tt {0})) (λ rest. give (a ∷ rest)))
-      step (got a rest) h = ap (λ (g : Got (List A)). onward g (λ rest. give (a ∷ rest))) (h rest)
-      step (fault m) h = refl
+  times-threaded zero = refl
+  times-threaded (suc n) = ap (λ (more : Reader (List A)). _>>=_ read (λ a. _>>=_ more (λ rest. give (a ∷ rest)))) (times-threaded n)
 
   pub times-none : (bytes : List ℕ) (c : Cursor) → Yields (times 0 read) bytes c c []
-  times-none bytes c = alike _ (times-threaded 0) (threaded-none (λ (_ : Unit {0}). read) (λ _. tt {0}) bytes c (tt {0}))
+  times-none bytes c = turn (times-threaded 0) (threaded-none (λ (_ : Unit {0}). read) (λ _. tt {0}) bytes c (tt {0}))
 
   pub times-more : {bytes : List ℕ} {c₀ c c′ : Cursor} (k : ℕ) (xs : List A) (x : A)
       → Yields (times k read) bytes c₀ c xs → Yields read bytes c c′ x → Yields (times (suc k) read) bytes c₀ c′ (xs ++ (x ∷ []))
   times-more k xs x h e =
-      alike _ (times-threaded (suc k)) (threaded-more (λ (_ : Unit {0}). read) (λ _. tt {0}) k (tt {0}) xs x (alike _ (λ bs. sym (times-threaded k bs)) h) e)
+      turn (times-threaded (suc k)) (threaded-more (λ (_ : Unit {0}). read) (λ _. tt {0}) k (tt {0}) xs x (turn (sym (times-threaded k)) h) e)
 
 -- a count in its range, and then what it counts
 pub ranged-then : {A : Type 0} {bytes : List ℕ} {c c₁ c₂ : Cursor} {m : ℕ} {a : A} (short range most : ℕ) (next : ℕ → Reader A)

@@ -1,10 +1,9 @@
 -- The bytes left at a place, and what the answer of a reader there says of them.
 use mathlib.Core.Path.{_≡_, refl, sym, ap, _∙_}
 use mathlib.Core.List.{List, [], _∷_}
-use Prim.Native.Nat.{ℕ, _+_, _<_}
-use native.Mathlib.Numerals.{add-one}
-use lib.ListN.{length, getD, drop}
-use lib.Seq.{drop-cons, drop-drop}
+use Prim.Native.Nat.{ℕ}
+use lib.ListN.{drop}
+use lib.Seq.{drop-drop}
 use Rattle.semantics.specs.Reader.{got, byte}
 use Rattle.reader.specs.Cursor.{upto, Yields, entryOf, nextByte}
 use Rattle.reader.specs.Answer.{unlessMore, finished}
@@ -13,9 +12,6 @@ use Rattle.reader.specs.declared.Cursor.the-variants.{At, Fault}
 use Rattle.reader.specs.declared.Entry.{Entry}
 use Rattle.reader.specs.declared.Ladder.{Ladder}
 use Rattle.reader.specs.declared.Ladder.the-variants.{Accepted, Refused}
-
-pub cons-at : (s : List ℕ) (at : ℕ) → at < length s → drop at s ≡ getD s at 0 ∷ drop (at + 1) s
-cons-at s at h = rw add-one (drop-cons s at 0 h)
 
 -- From the place to the one after it a byte is read.
 pub next-yields : (short : ℕ) (s : List ℕ) (at : ℕ) → Yields (byte short) s (At at) (nextByte short s at .cursor) (nextByte short s at .value)

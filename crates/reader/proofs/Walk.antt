@@ -1,11 +1,21 @@
 -- Walks by hand: how such a walk begins, what a call hands back in it, and what is owed at the return. Of a parameter that is read nothing
 -- is owed there; of a block that is written, what the last call that was lent it says of its last list.
+use mathlib.Core.Path.{_≡_, sym, subst}
 use mathlib.Core.List.{List, [], _∷_}
-use mir.Syntax.{Name, Fn}
+use mathlib.Core.Option.{some as some-of}
+use Prim.Native.Nat.{ℕ, _+_}
+use lib.Dec.{T as Holds}
+use mir.Syntax.{Name, Fn, Sym, Ty, tyStruct, Tys, field, place, copy, Rv as RValue, Body, seq, assign}
+use mir.Val.{Vals as Fields, vstruct, WT, hasTy}
+use mir.Fields.{getV, setV}
+use prog.Memory.{fieldAt}
 use base.Logic.{via, monoR}
-use prog.Wp.{Closed}
+use base.Fml.{froom, fdies}
+use prog.Wp.{Env, Spot, spotOf, Closed}
 use contract.Lifetimes.{Lfts, Shares, AllOutlive}
-use types.Kit.{Item, Goal, Seq, Soaks, some, later, use0, pick, await, show, updating, now}
+use types.Kit.{Item, Goal, Seq, Soaks, Step, step, Post, runs, frees, aim, nth, put, sel, sel⊢, ⋆, some, later, use0, pick, await, show, updating, now}
+use types.Run.{Walks, Opd, Rv, forget, free1}
+use types.Part.{Part}
 use denote.RattleType.{RattleType, flat}
 use denote.Laws.{Are, Ises, Spells, Tellss, valss, shows}
 use denote.Signature.{Signature, typeAt, typesAt}
@@ -32,8 +42,8 @@ pub use contract.Running.{givenOf, tables}
 unfoldable pub use contract.Running.{tablesOf}
 pub use types.Kit.{Given, ‵, raw, _⊛_, given, _$_, _∵_, !, qed, by, move, keep, drop, use1, use2, use3, split, join, learn, fsplit, fjoin, rewrite, suffices, frame, done}
 pub use types.Part.{agg, whole, sub, look-in}
-pub use types.Run.{look, init, forget, stop, hop, fld, from, load, lit, addr, of-opd, and-then, no-more, assigns, land, returns, enter}
-pub use types.Run.{alloc1, alloc0, params1, pass1, pass0, free1, free0}
+pub use types.Run.{look, init, stop, hop, fld, from, load, lit, addr, of-opd, and-then, no-more, assigns, land, returns, enter}
+pub use types.Run.{alloc1, alloc0, params1, pass1, pass0, free0}
 pub use denote.RattleType.{owns}
 pub use denote.Laws.{Is}
 pub use denote.Plain.{uint-vals, uint-tells, uint-makes}
@@ -48,6 +58,30 @@ pub use denote.Triple.Statement.{Contract, Triple}
 pub use denote.Triple.Table.{cited}
 pub use denote.Triple.Walked.{says}
 
+-- A local is entry n: as an operand, one of its fields as an operand, and an assignment to it.
+module _ {M : Type 1} {𝓤 : URA M} {H : Heap 𝓤} {A : Atoms 𝓤} {K : Type 0} {W : Given 𝓤 H A} {Γ : List (Item 𝓤)} {E : Env 𝓤 H} {i : ℕ} where
+  pub local : K → (n : ℕ) {q : Share} {v : Val} → nth 𝓤 H A n Γ ≡ ‵ (fat q (spotOf 𝓤 H E i .0) (spotOf 𝓤 H E i .1) (spotOf 𝓤 H E i .2) v) → Opd K W Γ E (copy (place i [])) v
+  local t n e = load t (from t (stop t)) (look t n e)
+
+  pub part : K → (n k : ℕ) {q : Share} {ν : Sym} {τs : Tys} {vs : Fields} {τ : Ty} {b o d : ℕ} → nth 𝓤 H A n Γ ≡ ‵ (fat q (tyStruct ν τs) b o (vstruct vs))
+      → spotOf 𝓤 H E i ≡ (tyStruct ν τs, b, o) → fieldAt 0 τs k ≡ some-of (τ, d) → Opd K W Γ E (copy (place i (field k ∷ []))) (getV vs k)
+  part t n k {q} {ν} {τs} {vs} {τ} {b} {o} {d} e s f =
+      load t (from t (subst (λ (sp : Spot 𝓤 H). Walks K W Γ E sp (field k ∷ []) (τ, b, o + d)) (sym s) (fld t f (stop t))))
+      (look-in t n (subst (λ (j : Item 𝓤). Part K W j q τ b (o + d) (getV vs k) (λ u. ‵ (fat q (tyStruct ν τs) b o (vstruct (setV vs k u))))) (sym e) (sub t k f (whole t))))
+
+  pub sets : K → {C : Calls 𝓤 H} {Λ : Loops 𝓤 H} {q : Post 𝓤 H} {rv : RValue} {rest : Body} {τ : Ty} {b o : ℕ} {v : Val} → Rv K W Γ E rv v → (n : ℕ)
+      → nth 𝓤 H A n Γ ≡ ‵ (froom τ b o) → spotOf 𝓤 H E i ≡ (τ, b, o) → Holds (hasTy τ v) × WT v
+      → Step K W (put 𝓤 H A n (‵ (fat fullShare τ b o v)) Γ) (runs C Λ E rest q) Γ (runs C Λ E (seq (assign (place i []) rv) rest) q)
+  sets t {b = b} {o = o} r n e s wt = assigns t r (from t (subst (λ (sp : Spot 𝓤 H). Walks K W Γ E (spotOf 𝓤 H E i) [] sp) s (stop t))) (init t n e wt)
+
+-- At the end: the local whose cell is entry n is freed, whatever it holds.
+pub gone : {M : Type 1} {𝓤 : URA M} {H : Heap 𝓤} {A : Atoms 𝓤} {K : Type 0} {W : Given 𝓤 H A} {Γ Γ′ : List (Item 𝓤)} {E : Env 𝓤 H} {G : Goal 𝓤 H} {τ : Ty} {b : ℕ} {v : Val}
+    → K → (n : ℕ) → nth 𝓤 H A n Γ ≡ ‵ (fat fullShare τ b 0 v)
+    → sel 𝓤 H A (n ∷ n ∷ []) (put 𝓤 H A n (‵ (froom τ b 0)) Γ) ≡ ‵ (froom τ b 0) ∷ ‵ (fdies τ b) ∷ Γ′ → Step K W Γ′ (frees E G) Γ (frees ((τ, b) ∷ E) G)
+gone {𝓤 = 𝓤} {H} {A} {Γ = Γ} {E = E} {G} {τ} {b} t n e f = step (λ s. forget t n e $ by t (
+    via 𝓤 (⋆ 𝓤 H A (sel 𝓤 H A (n ∷ n ∷ []) (put 𝓤 H A n (‵ (froom τ b 0)) Γ))) (sel⊢ 𝓤 H A (n ∷ n ∷ []) (put 𝓤 H A n (‵ (froom τ b 0)) Γ))
+    (subst (λ (Δ : List (Item 𝓤)). ent 𝓤 (⋆ 𝓤 H A Δ) (aim 𝓤 H (frees ((τ, b) ∷ E) G))) (sym f) ((free1 t $ s) .prf))))
+
 module _ {M : Type 1} (𝓤 : URA M) (H : Heap 𝓤) (A : Atoms 𝓤) (T : Ended) (c : Clauses 𝓤 T) where
   abbrev S : Signature
   S = T .signature
@@ -55,6 +89,13 @@ module _ {M : Type 1} (𝓤 : URA M) (H : Heap 𝓤) (A : Atoms 𝓤) (T : Ended
   -- The function's contract, as a caller has it.
   abbrev pub Promise : Contract 𝓤
   Promise = tripleOf 𝓤 H A S (closing 𝓤 H A T c)
+
+  -- Before a call: the tokens, what the arguments own, and what the function asks.
+  pub goes : Given 𝓤 H A → (y : Promise .Ghost) → ent 𝓤 (emp 𝓤) (c (y .0 .0) (y .0 .3) .requires (y .1))
+      → ent 𝓤 (onEntry 𝓤 H A S (y .0 .0) (y .0 .1) (y .0 .3) (y .0 .4)) (Promise .pre y)
+  goes W y asked =
+      qed W (raw (onEntry 𝓤 H A S (y .0 .0) (y .0 .1) (y .0 .3) (y .0 .4)) ∷ []) ∵
+      use0 W (raw (c (y .0 .0) (y .0 .3) .requires (y .1))) asked $ move ! (1 ∷ 0 ∷ []) $ done !
 
   module _ (y : Promise .Ghost) (v : Val) where
     abbrev κs : Lfts (S .lifetimes)

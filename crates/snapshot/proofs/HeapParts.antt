@@ -1,5 +1,5 @@
 -- Records: address, count and fields make a record, and records one after the other, each above the one before, make the heap.
-use mathlib.Core.Path.{_≡_, refl, sym, ap, _∙_}
+use mathlib.Core.Path.{_≡_, refl, sym, ap, fun-ext, _∙_}
 use mathlib.Core.Logic.{inl}
 use mathlib.Core.List.{List, _∷_}
 use Prim.Native.Nat.{ℕ, zero, suc, _+_, _*_, _≤_, _<_}
@@ -18,7 +18,7 @@ use Rattle.reader.specs.Cursor.{Yields, stopped}
 use Rattle.reader.specs.Layout.{valueLayout, Layout, Fills, many}
 use Rattle.snapshot.specs.HeapLayout.{addressLayout, sizeLayout, record-above, recordLayout, recordsLayout, AfterWord}
 use Rattle.reader.specs.declared.Cursor.{Cursor}
-use Rattle.reader.proofs.Chain.{chain, done, alike, passed, failed}
+use Rattle.reader.proofs.Chain.{assoc, chain, done, turn, passed, failed}
 use Rattle.reader.proofs.Counting.{threaded, left, left-snoc, threaded-none, threaded-more, ranged-then, counted-read}
 use Rattle.reader.proofs.Keep.{kept-none, kept-both}
 use Rattle.reader.proofs.Section.{ones, entries-same, Local, row-more}
@@ -61,22 +61,15 @@ from-word {c₀ = c₀} y h = record { reads = h .reads c₀ y; sized = h .sized
 abbrev addressOf : Record → ℕ
 addressOf here = here .address
 
-records-threaded : (n low : ℕ) (bytes : List ℕ) → records n low bytes ≡ threaded n low record-above addressOf bytes
+records-threaded : (n low : ℕ) → threaded n low record-above addressOf ≡ records n low
 unfolding records threaded
-records-threaded zero low bytes = refl
-records-threaded (suc n) low bytes = first (records-threaded n) (address low bytes)
+records-threaded zero low = refl
+records-threaded (suc n) low = fun-ext (λ bytes. first (records-threaded n) (address low bytes))
   where
-    Same : Type 0
-    Same = (low : ℕ) (rest : List ℕ) → records n low rest ≡ threaded n low record-above addressOf rest
-
-    then : Same → (a : ℕ) (r : Got (List ℕ)) → onward r (λ fs. _>>=_ (records n a) (λ more. give (record { address = a; fields = fs } ∷ more)))
-        ≡ onward (onward r (λ fs. give (record { address = a; fields = fs }))) (λ r. _>>=_ (threaded n (addressOf r) record-above addressOf) (λ rest. give (r ∷ rest)))
-    then h a (got fs rest) = ap (λ (g : Got Heap). onward g (λ more. give (record { address = a; fields = fs } ∷ more))) (h a rest)
-    then h a (fault m) = refl
-
-    first : Same → (r : Got ℕ) → onward r (λ a. _>>=_ (counted 5 6 4 (value 5)) (λ fs. _>>=_ (records n a) (λ more. give (record { address = a; fields = fs } ∷ more))))
-        ≡ onward (onward r (λ a. _>>=_ (counted 5 6 4 (value 5)) (λ fs. give (record { address = a; fields = fs })))) (λ r. _>>=_ (threaded n (addressOf r) record-above addressOf) (λ rest. give (r ∷ rest)))
-    first h (got a rest) = then h a (counted 5 6 4 (value 5) rest)
+    first : ((low : ℕ) → threaded n low record-above addressOf ≡ records n low) → (r : Got ℕ)
+        → onward (onward r (λ a. _>>=_ (counted 5 6 4 (value 5)) (λ fs. give (record { address = a; fields = fs })))) (λ r. _>>=_ (threaded n (addressOf r) record-above addressOf) (λ rest. give (r ∷ rest)))
+        ≡ onward r (λ a. _>>=_ (counted 5 6 4 (value 5)) (λ fs. _>>=_ (records n a) (λ more. give (record { address = a; fields = fs } ∷ more))))
+    first h (got a rest) = rw (← h a) (sym (assoc (counted 5 6 4 (value 5) rest) (λ fs. give (record { address = a; fields = fs })) _))
     first h (fault m) = refl
 
 -- the records that a block has from place 1 on, and the address that the last of them leaves behind
@@ -98,7 +91,7 @@ last-more b k =
 pub records-none : (bytes : List ℕ) (c : Cursor) (b : List ℕ) → Fills (recordsLayout 0) 1 bytes c b b c
 unfolding tabulate
 records-none bytes c b = record {
-  reads = alike _ (records-threaded 0 0) (threaded-none record-above addressOf bytes c 0);
+  reads = turn (records-threaded 0 0) (threaded-none record-above addressOf bytes c 0);
   sized = λ k l. absurd (omega arith);
   kept = kept-none _ _ b;
 }
@@ -108,8 +101,8 @@ pub records-more : {bytes : List ℕ} {c₀ c c′ : Cursor} {b₀ b b′ : List
 records-more {bytes} {c₀} {c} {c′} {b₀} {b} {b′} low k e h here =
     row-more (recordLayout 0) (record-local 0) (records (k + 1) 0) 1 k (omega arith) h (here .sized) (here .kept)
     (rw (add-one k)
-    (alike _ (records-threaded (suc k) 0)
-    (threaded-more record-above addressOf k 0 (recordsIn b k) (recordIn b′ (1 + 6 * k)) (alike _ (λ bs. sym (records-threaded k 0 bs)) (h .reads)) (rw (← e) (here .reads)))))
+    (turn (records-threaded (suc k) 0)
+    (threaded-more record-above addressOf k 0 (recordsIn b k) (recordIn b′ (1 + 6 * k)) (turn (sym (records-threaded k 0)) (h .reads)) (rw (← e) (here .reads)))))
 
 pub records-whole : {bytes : List ℕ} {c c′ : Cursor} {b b′ : List ℕ} {k : ℕ} (count : ℕ) → k ≤ count → count ≤ k
     → Fills (recordsLayout k) 1 bytes c b b′ c′ → Fills (recordsLayout count) 1 bytes c b b′ c′

@@ -5,9 +5,6 @@ use Rattle.snapshot.proofs.HeapParts.{heap-fills}
 use Rattle.snapshot.proofs.counted_records.Statement.{statement}
 use Rattle.snapshot.proofs.counted_records.Tie as tie
 
-records-requires : tie.Need-records-requires
-records-requires c κs = omega (arith, c .before .before .before .before .before .before .before .before .pre, c .before .before .before .before .size .ensures .sized .high, c .before .before .before .before .size .ensures .kept .long)
-
 returns : tie.Need-returns
 returns c =
     let count = c .before .before .before .before .before .before .before .size .ensures in
@@ -17,6 +14,5 @@ returns c =
 pub counted-records-spec : {M : Type 1} → statement M
 counted-records-spec =
     tie.close
-    (tie.spec (λ c κs. omega arith)
-    (λ c. omega (arith, c .before .before .before .before .before .before .before .pre, c .before .before .before .size .ensures .kept .long))
-    records-requires (λ c. returns c .long) returns)
+    (tie.spec (λ c κs. omega arith) (λ c. let d = c .before .before .before in omega (arith, d .before .before .before .before .pre, d .size .ensures))
+    (λ c κs. let d = c .before .before .before .before in omega (arith, d .before .before .before .before .pre, d .size .ensures)) (λ c. returns c .long) returns)

@@ -1,7 +1,7 @@
 -- The reader reads four bytes and comes back moved, with their value; it is taken apart, `after_address` reads the rest of the record into the
 -- block, and the same slice goes on with the cursor that it gives. The block is lent on for good, so its last list is the one that
 -- `after_address` speaks of.
-use mathlib.Core.Path.{_≡_, refl, ap, subst}
+use mathlib.Core.Path.{_≡_, refl, ap}
 use mathlib.Core.List.{List, [], _∷_}
 use Prim.Native.Nat.{ℕ, _+_, _<_, _≤_, _^_}
 use lib.Dec.{lit<}
@@ -18,17 +18,16 @@ use Rattle.reader.specs.declared.Cursor.{Cursor}
 use Rattle.reader.specs.declared.Reader.{Reader}
 use Rattle.reader.specs.declared.Word.{Word}
 use Rattle.snapshot.proofs.HeapParts.{from-word}
-use Rattle.reader.proofs.Carry.{cursorVal, sliceOf, readerVal, cursor-is, cursor-told, cursor-makes, Bytes, cursor-typed}
-use Rattle.reader.proofs.Carry.{reader-typed, made-typed, together}
-use Rattle.reader.proofs.Walk.{URA, fullShare, named, erased, w8, w32, w64, Val, vint, SProp, ent, sep, emp, id⊢, Lft, Share, Fml}
-use Rattle.reader.proofs.Walk.{ftrue, fat, flft, Memory, Routine, Heap, Calls, Loops, WpFn, FmC, fmOf, Atoms, sem, Fun, factI}
-use Rattle.reader.proofs.Walk.{givenOf, tables, tablesOf, Given, ‵, raw, _⊛_, given, _$_, _∵_, !, qed, move, keep, drop, use1, use2}
-use Rattle.reader.proofs.Walk.{use3, split, join, learn, fsplit, fjoin, rewrite, suffices, frame, done, agg, whole, sub, look-in}
-use Rattle.reader.proofs.Walk.{look, init, forget, stop, hop, fld, from, load, lit, addr, of-opd, and-then, no-more, assigns, land}
-use Rattle.reader.proofs.Walk.{returns, enter, alloc1, alloc0, params1, pass1, pass0, free1, free0, owns, Is, uint-vals, uint-tells}
-use Rattle.reader.proofs.Walk.{uint-makes, u8, u32, usize, RefT, NamedLft, namedLft, MutSlice, slice-vals, shr-slice-copy}
-use Rattle.reader.proofs.Walk.{mut-slice-tells, mut-slice-lawful, nothing, owned, only, calls-at, Vals, onEntry, Contract, Triple}
-use Rattle.reader.proofs.Walk.{cited, says, Promise, leaves, comes, keeps}
+use Rattle.reader.proofs.Carry.{cursorVal, sliceOf, readerVal, cursor-is, cursor-told, cursor-makes, Bytes, cursor-typed, reader-typed}
+use Rattle.reader.proofs.Carry.{made-typed, together}
+use Rattle.reader.proofs.Walk.{URA, fullShare, named, erased, w8, w32, w64, Val, vint, SProp, ent, sep, emp, id⊢, Lft, Share, Fml, ftrue}
+use Rattle.reader.proofs.Walk.{fat, flft, Memory, Routine, Heap, Calls, Loops, WpFn, FmC, fmOf, Atoms, sem, Fun, factI, givenOf, tables}
+use Rattle.reader.proofs.Walk.{tablesOf, Given, ‵, raw, _⊛_, given, _$_, _∵_, !, qed, move, keep, drop, use1, use2, use3, split, join}
+use Rattle.reader.proofs.Walk.{learn, fsplit, fjoin, rewrite, suffices, frame, done, agg, whole, sub, look-in, look, init, stop, hop, fld}
+use Rattle.reader.proofs.Walk.{from, lit, addr, of-opd, and-then, no-more, land, returns, enter, alloc1, alloc0, params1, pass1, pass0}
+use Rattle.reader.proofs.Walk.{free0, owns, Is, uint-vals, uint-tells, uint-makes, u8, u32, usize, RefT, NamedLft, namedLft, MutSlice}
+use Rattle.reader.proofs.Walk.{slice-vals, shr-slice-copy, mut-slice-tells, mut-slice-lawful, nothing, owned, only, calls-at, onEntry}
+use Rattle.reader.proofs.Walk.{Contract, Triple, cited, Promise, leaves, comes, keeps, local, part, sets, gone, goes}
 use Rattle.reader.proofs.Cursor as cursor
 use Rattle.reader.proofs.Cursor.Laws as cursor-laws
 use Rattle.reader.proofs.Reader as reader
@@ -70,14 +69,11 @@ module _ {M : Type 1} (𝓤 : URA M) (H : Heap 𝓤) (A : Atoms 𝓤) (W : Given
   abbrev b : Val
   b = sliceOf h
 
-  abbrev passed : Vals rec.signature (κ, (μ, tt))
-  passed = (u ∷ [], (b ∷ [], (vint w64 at ∷ [], (vint w32 low ∷ [], tt))))
-
   abbrev here : Here .Ghost
-  here = (((κ, (μ, tt)), (q, (p, tt)), tt, (d, (h, (at, (low, tt)))), passed), tt)
+  here = (((κ, (μ, tt)), (q, (p, tt)), tt, (d, (h, (at, (low, tt)))), (u ∷ [], (b ∷ [], (vint w64 at ∷ [], (vint w32 low ∷ [], tt))))), tt)
 
   abbrev Start : SProp 𝓤
-  Start = onEntry 𝓤 H A rec.signature (κ, (μ, tt)) (q, (p, tt)) (d, (h, (at, (low, tt)))) passed
+  Start = onEntry 𝓤 H A rec.signature (κ, (μ, tt)) (q, (p, tt)) (d, (h, (at, (low, tt)))) (here .0 .4)
 
   -- the first call; what block, place and bound own is kept for the second, with the block's token
   abbrev first : First .Ghost
@@ -88,7 +84,7 @@ module _ {M : Type 1} (𝓤 : URA M) (H : Heap 𝓤) (A : Atoms 𝓤) (W : Given
 
   to-word : ent 𝓤 Start (sep 𝓤 (First .pre first) (sep 𝓤 (sep 𝓤 (sem 𝓤 H A (flft μ p)) (sem 𝓤 H A ftrue)) (sem 𝓤 H A Rest)))
   to-word =
-      qed W ((‵ (flft κ q) ⊛ (‵ (flft μ p) ⊛ ‵ ftrue)) ∷ ‵ (owns (reader.the-row α ∷ MutSlice (named 1) μ u32 ∷ usize ∷ u32 ∷ []) (d, (h, (at, (low, tt)))) passed) ∷ []) ∵
+      qed W ((‵ (flft κ q) ⊛ (‵ (flft μ p) ⊛ ‵ ftrue)) ∷ ‵ (owns (reader.the-row α ∷ MutSlice (named 1) μ u32 ∷ usize ∷ u32 ∷ []) (d, (h, (at, (low, tt)))) (here .0 .4)) ∷ []) ∵
       split ! $ nothing ! $ move ! (1 ∷ 0 ∷ []) $ join ! $ move ! (2 ∷ []) $ fsplit ! $
       -- [the reader; the rest; the reader's token; the block's token]
       nothing ! $ owned ! u8 (Is u8) (uint-makes 𝓤 H A W w8) 5 _ (refl, lit< tt) $ fjoin ! $ move ! (1 ∷ 0 ∷ []) $ fjoin ! $
@@ -99,18 +95,17 @@ module _ {M : Type 1} (𝓤 : URA M) (H : Heap 𝓤) (A : Atoms 𝓤) (W : Given
     abbrev Slice : Fml
     Slice = Bytes α .own (r .bytes) (sliceOf (r .bytes) ∷ [])
 
-    abbrev handed : Vals below.signature (κ, (μ, tt))
-    handed = (sliceOf (r .bytes) ∷ [], (cursorVal (r .at) ∷ [], (vint w32 (r .value) ∷ [], (b ∷ [], (vint w64 at ∷ [], (vint w32 low ∷ [], tt))))))
-
     abbrev then : Then .Ghost
-    then = (((κ, (μ, tt)), (q, (p, tt)), tt, (r .bytes, (r .at, (r .value, (h, (at, (low, tt)))))), handed), tt)
-
-    goes : at + 6 ≤ length (h .now)
-        → ent 𝓤 (onEntry 𝓤 H A below.signature (κ, (μ, tt)) (q, (p, tt)) (r .bytes, (r .at, (r .value, (h, (at, (low, tt)))))) handed) (Then .pre then)
-    goes within =
-        qed W ((‵ (flft κ q) ⊛ (‵ (flft μ p) ⊛ ‵ ftrue)) ∷
-        ‵ (owns (Bytes α ∷ cursor.the-row ∷ u32 ∷ MutSlice (named 1) μ u32 ∷ usize ∷ u32 ∷ []) (r .bytes, (r .at, (r .value, (h, (at, (low, tt)))))) handed) ∷ []) ∵
-        says ! within $ frame ! $ done !
+    then = (
+      (
+        (κ, (μ, tt)),
+        (q, (p, tt)),
+        tt,
+        (r .bytes, (r .at, (r .value, (h, (at, (low, tt)))))),
+        (sliceOf (r .bytes) ∷ [], (cursorVal (r .at) ∷ [], (vint w32 (r .value) ∷ [], (b ∷ [], (vint w64 at ∷ [], (vint w32 low ∷ [], tt)))))),
+      ),
+      tt,
+    )
 
     abbrev val : Val
     val = struct-laws.val (word-of.the-type α) (word-laws.the-laws α) r
@@ -128,7 +123,7 @@ module _ {M : Type 1} (𝓤 : URA M) (H : Heap 𝓤) (A : Atoms 𝓤) (W : Given
         move ! (3 ∷ []) $ split ! $ move ! (1 ∷ []) $ owned ! u32 (Is u32) (uint-makes 𝓤 H A W w32) (r .value) _ (fields .1 .1 .0) $ fjoin ! $
         owned ! cursor.the-row (Is cursor.the-row) (cursor-makes 𝓤 H A) (r .at) _ (fields .1 .0) $ fjoin ! $
         move ! (2 ∷ 0 ∷ []) $ fjoin ! $ move ! (3 ∷ []) $ split ! $ move ! (1 ∷ []) $ drop ! $ move ! (0 ∷ 2 ∷ []) $ join ! $
-        use2 W (raw (Then .pre then)) (goes within) $ frame ! $ done !)
+        use2 W (raw (Then .pre then)) (goes 𝓤 H A below.ended (below.clauses 𝓤 H A mem run) W then (factI 𝓤 _ (emp 𝓤) within)) $ frame ! $ done !)
 
   abbrev Read : Word → Type 0
   Read r = (r .bytes ≡ d .bytes) × Yields (wordReader 5) (now (d .bytes)) (d .at) (r .at) (r .value)
@@ -137,8 +132,7 @@ module _ {M : Type 1} (𝓤 : URA M) (H : Heap 𝓤) (A : Atoms 𝓤) (W : Given
   Told r c zs = AfterWord (recordLayout low) at (now (r .bytes)) (r .at) (r .value) (h .now) zs c
 
   fills : (r : Word) (c : Cursor) (zs : List ℕ) → Read r → Told r c zs → Fills (recordLayout low) at (now (d .bytes)) (d .at) (h .now) zs c
-  fills r c zs read told =
-      from-word (read .1) (subst (λ (x : RefT (List ℕ)). AfterWord (recordLayout low) at (now x) (r .at) (r .value) (h .now) zs c) (read .0) told)
+  fills r c zs read told = from-word (read .1) (rw (read .0) at told)
 
   walk : Is (reader.the-row α) d (u ∷ []) → Is (MutSlice (named 1) μ u32) h (b ∷ []) → at < 2 ^ 64 → low < 2 ^ 32 → at + 6 ≤ length (h .now)
       → FmC 𝓤 H (W .laws) C → Triple 𝓤 (C word-code.name) First → Triple 𝓤 (C below-code.name) Then
@@ -146,59 +140,51 @@ module _ {M : Type 1} (𝓤 : URA M) (H : Heap 𝓤) (A : Atoms 𝓤) (W : Given
   walk is room small tiny within fm known-word known =
       let block = mut-slice-lawful 𝓤 H A W (named 1) μ u32 .typed h (b ∷ []) room .0 in
       qed W (raw Start ∷ []) ∵ enter ! C Λ code.function (u ∷ b ∷ vint w64 at ∷ vint w32 low ∷ []) _ $
-      alloc1 ! (λ l₀. alloc1 ! (λ l₁. alloc1 ! (λ l₂. alloc1 ! (λ l₃. alloc1 ! (λ l₄. alloc1 ! (λ l₅. alloc1 ! (λ l₆. alloc1 ! (λ l₇. alloc1 ! (λ l₈.
-      alloc1 ! (λ l₉. alloc1 ! (λ l₁₀. alloc1 ! (λ l₁₁. alloc1 ! (λ l₁₂. alloc1 ! (λ l₁₃. alloc0 ! $ params1 ! $
-      pass1 ! (init ! 24 refl (reader-typed α 𝓤 H A W d u is)) $ pass1 ! (init ! 22 refl block) $ pass1 ! (init ! 20 refl (tt, record { fits = small })) $
-      pass1 ! (init ! 18 refl (tt, record { fits = tiny })) $ pass0 ! $
-      assigns ! (of-opd ! (load ! (from ! (stop !)) (look ! 24 refl))) (from ! (stop !)) (init ! 12 refl (reader-typed β 𝓤 H A W d u is)) $
-      move ! (28 ∷ []) $ use1 W (raw (First .pre first) ⊛ ((‵ (flft μ p) ⊛ ‵ ftrue) ⊛ ‵ Rest)) to-word $ split ! $
+      alloc1 ! (λ l₀. alloc1 ! (λ l₁. alloc1 ! (λ l₂. alloc1 ! (λ l₃. alloc1 ! (λ l₄. alloc1 !
+      (λ l₅. alloc1 ! (λ l₆. alloc1 ! (λ l₇. alloc1 ! (λ l₈. alloc1 ! (λ l₉. alloc1 ! (λ l₁₀. alloc1 ! (λ l₁₁. alloc1 ! (λ l₁₂. alloc1 ! (λ l₁₃. alloc0 ! $
+      params1 ! $ pass1 ! (init ! 24 refl (reader-typed α 𝓤 H A W d u is)) $ pass1 ! (init ! 22 refl block) $
+      pass1 ! (init ! 20 refl (tt, record { fits = small })) $ pass1 ! (init ! 18 refl (tt, record { fits = tiny })) $ pass0 ! $
+      sets ! (of-opd ! (local ! 24 refl)) 12 refl refl (reader-typed β 𝓤 H A W d u is) $ move ! (28 ∷ []) $
+      use1 W (raw (First .pre first) ⊛ ((‵ (flft μ p) ⊛ ‵ ftrue) ⊛ ‵ Rest)) to-word $ split ! $
       -- [the call; what is kept; room for _13; …]: local i stands at 2 + 2 · (13 − i)
-      calls-at ! fm First known-word first (and-then ! (load ! (from ! (stop !)) (look ! 14 refl)) (and-then ! (lit ! tt) (no-more !))) (λ w.
-      comes 𝓤 H A word.ended (word.clauses 𝓤 H A mem run) first w ! tt (λ r ws. Read r) (λ r ws. id⊢ 𝓤 _) (λ r ws read ris.
+      calls-at ! fm First known-word first (and-then ! (local ! 14 refl) (and-then ! (lit ! tt) (no-more !)))
+      (λ w. comes 𝓤 H A word.ended (word.clauses 𝓤 H A mem run) first w ! tt (λ r ws. Read r) (λ r ws. id⊢ 𝓤 _) (λ r ws read ris.
       let fields = struct-laws.owed (word-of.the-type α) (word-laws.the-laws α) r (w ∷ []) ris in
       let typed = struct-laws.lawful (word-of.the-type β) (word-laws.the-laws β) 𝓤 H A W .typed r _ (struct-laws.owes (word-of.the-type α) (word-laws.the-laws α) r fields) .0 in
       -- [the word; the token; last values; what is kept; room for _13; …]: local i stands at 4 + 2 · (13 − i)
       land ! (from ! (stop !)) (init ! 20 refl (struct-laws.lawful (word-of.the-type β) (word-laws.the-laws β) 𝓤 H A W .typed r _ ris .0)) $
-      rewrite ! 20 (λ (z : Val). ‵ (fat fullShare (word-laws.mir erased) l₅ 0 z)) (ap only (struct-laws.tells (word-of.the-type α) (word-laws.the-laws α) r _ ris)) refl $
-      assigns ! (of-opd ! (load ! (from ! (fld ! refl (stop !))) (look-in ! 20 (sub ! 0 refl (whole !))))) (from ! (stop !)) (init ! 14 refl (tt, typed .1 .0)) $
-      assigns ! (of-opd ! (load ! (from ! (fld ! refl (stop !))) (look-in ! 20 (sub ! 1 refl (whole !))))) (from ! (stop !))
-      (init ! 12 refl (cursor-typed α 𝓤 H A W (r .at) (fields .1 .0))) $
-      assigns ! (of-opd ! (load ! (from ! (fld ! refl (stop !))) (look-in ! 20 (sub ! 2 refl (whole !))))) (from ! (stop !))
-      (init ! 10 refl (tt, record { fits = fields .1 .1 .0 .1 })) $
-      assigns ! (addr ! (from ! (fld ! refl (hop ! (look-in ! 26 (sub ! 0 refl (whole !))) (stop !))))) (from ! (stop !)) (init ! 8 refl (tt, tt)) $
-      assigns ! (agg ! (and-then ! (load ! (from ! (stop !)) (look ! 8 refl)) (and-then ! (load ! (from ! (fld ! refl (stop !))) (look-in ! 26 (sub ! 1 refl (whole !)))) (no-more !))))
-      (from ! (stop !)) (init ! 6 refl (tt, block .1)) $
+      rewrite ! 20 (λ (z : Val). ‵ (fat fullShare (word-laws.mir erased) l₅ 0 z))
+      (ap only (struct-laws.tells (word-of.the-type α) (word-laws.the-laws α) r _ ris)) refl $
+      sets ! (of-opd ! (part ! 20 0 refl refl refl)) 14 refl refl (tt, typed .1 .0) $
+      sets ! (of-opd ! (part ! 20 1 refl refl refl)) 12 refl refl (cursor-typed α 𝓤 H A W (r .at) (fields .1 .0)) $
+      sets ! (of-opd ! (part ! 20 2 refl refl refl)) 10 refl refl (tt, record { fits = fields .1 .1 .0 .1 }) $
+      sets ! (addr ! (from ! (fld ! refl (hop ! (look-in ! 26 (sub ! 0 refl (whole !))) (stop !))))) 8 refl refl (tt, tt) $
+      sets ! (agg ! (and-then ! (local ! 8 refl) (and-then ! (part ! 26 1 refl refl refl) (no-more !)))) 6 refl refl (tt, block .1) $
       move ! (0 ∷ 1 ∷ 3 ∷ []) $ use3 W (raw (Then .pre (then r)) ⊛ ‵ (Slice r)) (to-below r w ris within) $ move ! (1 ∷ []) $ drop ! $ split ! $
       -- [the call; the slice; room for _13; …]: local i stands at 2 + 2 · (13 − i)
-      calls-at ! fm Then known (then r) (and-then ! (load ! (from ! (stop !)) (look ! 12 refl)) (and-then ! (load ! (from ! (stop !)) (look ! 10 refl))
-      (and-then ! (load ! (from ! (stop !)) (look ! 8 refl)) (and-then ! (load ! (from ! (stop !)) (look ! 4 refl)) (and-then ! (load ! (from ! (stop !)) (look ! 22 refl))
-      (and-then ! (load ! (from ! (stop !)) (look ! 20 refl)) (no-more !))))))) (λ x.
-      comes 𝓤 H A below.ended (below.clauses 𝓤 H A mem run) (then r) x ! tt (λ c zs. Told r c (zs .1 .1 .1 .0)) (λ c zs. id⊢ 𝓤 _) (λ c zs told cis.
+      calls-at ! fm Then known (then r) (and-then ! (local ! 12 refl) (and-then ! (local ! 10 refl)
+      (and-then ! (local ! 8 refl) (and-then ! (local ! 4 refl) (and-then ! (local ! 22 refl) (and-then ! (local ! 20 refl) (no-more !)))))))
+      (λ x. comes 𝓤 H A below.ended (below.clauses 𝓤 H A mem run) (then r) x ! tt (λ c zs. Told r c (zs .1 .1 .1 .0)) (λ c zs. id⊢ 𝓤 _) (λ c zs told cis.
       -- [the cursor; the tokens; the last list; the slice; room for _13; …]: local i stands at 4 + 2 · (13 − i)
       land ! (from ! (stop !)) (init ! 18 refl (enum-laws.lawful cursor.the-type cursor-laws.the-laws 𝓤 H A W tt .typed c _ cis .0)) $
       rewrite ! 18 (λ (z : Val). ‵ (fat fullShare cursor-laws.mir l₆ 0 z)) (cursor-is c x cis) refl $
-      assigns ! (of-opd ! (load ! (from ! (fld ! refl (stop !))) (look-in ! 20 (sub ! 0 refl (whole !))))) (from ! (stop !)) (init ! 4 refl (tt, typed .1 .0)) $
-      assigns ! (agg ! (and-then ! (load ! (from ! (stop !)) (look ! 4 refl)) (and-then ! (load ! (from ! (stop !)) (look ! 18 refl)) (no-more !)))) (from ! (stop !))
-      (init ! 30 refl (made-typed α 𝓤 H A W (r .bytes) c (fields .0) (cursor-told c x cis))) $
-      returns ! (look ! 30 refl) $ forget ! 4 refl $ forget ! 6 refl $ forget ! 8 refl $ forget ! 10 refl $ forget ! 12 refl $ forget ! 14 refl $
-      forget ! 16 refl $ forget ! 18 refl $ forget ! 20 refl $ forget ! 22 refl $ forget ! 24 refl $ forget ! 26 refl $ forget ! 28 refl $ forget ! 30 refl $
-      move ! (30 ∷ 31 ∷ []) $ free1 ! $ move ! (28 ∷ 29 ∷ []) $ free1 ! $ move ! (26 ∷ 27 ∷ []) $ free1 ! $ move ! (24 ∷ 25 ∷ []) $ free1 ! $
-      move ! (22 ∷ 23 ∷ []) $ free1 ! $ move ! (20 ∷ 21 ∷ []) $ free1 ! $ move ! (18 ∷ 19 ∷ []) $ free1 ! $ move ! (16 ∷ 17 ∷ []) $ free1 ! $
-      move ! (14 ∷ 15 ∷ []) $ free1 ! $ move ! (12 ∷ 13 ∷ []) $ free1 ! $ move ! (10 ∷ 11 ∷ []) $ free1 ! $ move ! (8 ∷ 9 ∷ []) $ free1 ! $
-      move ! (6 ∷ 7 ∷ []) $ free1 ! $ move ! (4 ∷ 5 ∷ []) $ free1 ! $ free0 ! $
+      sets ! (of-opd ! (part ! 20 0 refl refl refl)) 4 refl refl (tt, typed .1 .0) $
+      sets ! (agg ! (and-then ! (local ! 4 refl) (and-then ! (local ! 18 refl) (no-more !)))) 30 refl refl
+      (made-typed α 𝓤 H A W (r .bytes) c (fields .0) (cursor-told c x cis)) $ returns ! (look ! 30 refl) $ gone ! 30 refl refl $ gone ! 28 refl refl $
+      gone ! 26 refl refl $ gone ! 24 refl refl $ gone ! 22 refl refl $ gone ! 20 refl refl $ gone ! 18 refl refl $ gone ! 16 refl refl $
+      gone ! 14 refl refl $ gone ! 12 refl refl $ gone ! 10 refl refl $ gone ! 8 refl refl $ gone ! 6 refl refl $ gone ! 4 refl refl $ free0 ! $
       suffices ! _ (leaves 𝓤 H A rec.ended (rec.clauses 𝓤 H A mem run) here _ W (record { bytes = r .bytes; at = c }) (tt, (zs .1 .1 .1 .0, (tt, (tt, tt))))
-      (factI 𝓤 _ (emp 𝓤) (read .0, fills r c (zs .1 .1 .1 .0) read told))) $
-      move ! (3 ∷ []) $ use1 W (‵ (reader.the-row α .own (record { bytes = r .bytes; at = c }) (readerVal (r .bytes) c ∷ [])))
-      (together α 𝓤 H A W (r .bytes) c (cursor-told c x cis)) $
-      move ! (2 ∷ 0 ∷ []) $ join ! $ frame ! $ move ! (1 ∷ []) $ fsplit ! $ drop ! $ fsplit ! $ drop ! $ keep ! (0 ∷ []) $ done !))))))))))))))))))
+      (factI 𝓤 _ (emp 𝓤) (read .0, fills r c (zs .1 .1 .1 .0) read told))) $ move ! (3 ∷ []) $
+      use1 W (‵ (reader.the-row α .own (record { bytes = r .bytes; at = c }) (readerVal (r .bytes) c ∷ [])))
+      (together α 𝓤 H A W (r .bytes) c (cursor-told c x cis)) $ move ! (2 ∷ 0 ∷ []) $ join ! $ frame ! $ move ! (1 ∷ []) $ fsplit ! $ drop ! $ fsplit ! $
+      drop ! $ keep ! (0 ∷ []) $ done !))))))))))))))))))
 
 pub record-spec : {M : Type 1} → stated.statement M
 unfolding code.routine tablesOf
 record-spec 𝓤 H 𝓜 𝓖 𝓡 =
-    let C = tables 𝓤 H 𝓜 𝓡 code.env .C in
-    let Λ = tables 𝓤 H 𝓜 𝓡 code.env .Λ in
+    let T = tables 𝓤 H 𝓜 𝓡 code.env in
     let W = givenOf 𝓤 H 𝓜 𝓖 in
-    keeps 𝓤 H (𝓖 .A) rec.ended (rec.clauses 𝓤 H (𝓖 .A) (𝓜 .mem) (𝓡 .run)) C Λ code.function
+    keeps 𝓤 H (𝓖 .A) rec.ended (rec.clauses 𝓤 H (𝓖 .A) (𝓜 .mem) (𝓡 .run)) (T .C) (T .Λ) code.function
     (λ κs. (struct-laws.vals (reader.the-type (namedLft 2 0 tt κs)) (reader-laws.the-laws (namedLft 2 0 tt κs)), (slice-vals, (uint-vals w64, (uint-vals w32, tt)))))
     (λ κs a. a .1 .1 .0 + 6 ≤ length (a .1 .0 .now)) (λ κs a g. id⊢ 𝓤 _) key.name (code.unfolded 𝓤 H 𝓜 𝓡)
     (λ κs. (
@@ -206,7 +192,7 @@ record-spec 𝓤 H 𝓜 𝓖 𝓡 =
       (mut-slice-tells (named 1) (κs .1 .0) u32, (uint-tells w64, (uint-tells w32, tt))),
     ))
     (λ κs qs bounds a g within are.
-    walk 𝓤 H (𝓖 .A) W (𝓜 .mem) (𝓡 .run) C Λ (κs .0) (κs .1 .0) (qs .0) (qs .1 .0) (a .0) (a .1 .0) (a .1 .1 .0) (a .1 .1 .1 .0)
-    (are .0) (are .1 .0) (are .1 .1 .0 .1) (are .1 .1 .1 .0 .1) within (fmOf 𝓤 H (W .laws) (tablesOf 𝓤 H 𝓜 (tables 𝓤 H 𝓜 𝓡 code.env)))
+    walk 𝓤 H (𝓖 .A) W (𝓜 .mem) (𝓡 .run) (T .C) (T .Λ) (κs .0) (κs .1 .0) (qs .0) (qs .1 .0) (a .0) (a .1 .0) (a .1 .1 .0) (a .1 .1 .1 .0)
+    (are .0) (are .1 .0) (are .1 .1 .0 .1) (are .1 .1 .1 .0 .1) within (fmOf 𝓤 H (W .laws) (tablesOf 𝓤 H 𝓜 T))
     (cited 𝓤 H _ 𝓜 𝓡 code.env word-code.name word-code.routine code.calls-reader·Reader·word (word-met.met 𝓤 H 𝓜 𝓖 𝓡))
     (cited 𝓤 H _ 𝓜 𝓡 code.env below-code.name below-code.routine code.calls-snapshot·after-address (below-met.met 𝓤 H 𝓜 𝓖 𝓡)))

@@ -14,29 +14,16 @@ Inv-loop s heap₀ count most next₀ low₀ k₀ heap next low k = (k ≤ count
 abbrev μ-loop : tie.MeasureT-loop
 μ-loop s heap₀ count most next₀ low₀ k₀ heap next low k = count - k
 
-mul-low-2 : tie.Need-mul-low-2 Inv-loop μ-loop
-mul-low-2 c = omega (arith, c .before .before .before .before .before .before .before .before .pre, c .before .before .before .before .before .before .before .before .good .1 .1 .0)
-
-slice-read-low : tie.Need-slice-read-low Inv-loop μ-loop
-slice-read-low c = omega (arith, c .before .before .before .before .before .before .before .before .before .pre, c .before .before .before .heap-record .ensures .kept .long, c .before .before .before .before .before .before .loop .inv .2 .kept .long)
-
-loop-again : tie.Need-loop-again Inv-loop μ-loop
-loop-again c =
-    let l = c .before .before .before .before .before .before .loop in
-    (omega arith, last-more (c .before .before .before .heap-record .last .1 .1 .0) (l .k), records-more (l .low) (l .k) (l .inv .1) (l .inv .2) (c .before .before .before .heap-record .ensures))
-
-returns : tie.Need-returns Inv-loop μ-loop
-returns c =
-    let l = c .before .loop in
-    records-whole (c .before .before .before .before .args .count) (l .inv .0) (c .loop-test .left) (l .inv .2)
-
 pub records-spec : {M : Type 1} → statement M
 records-spec =
     tie.close
     (tie.spec Inv-loop μ-loop (λ c. let a = c .before .before .args in (omega arith, last-none (a .heap .now), records-none _ _ _))
-    (λ c. omega (arith, c .before .before .before .before .before .pre))
-    (λ c. omega (arith, c .before .before .before .before .before .pre))
+    (λ c. omega (arith, c .before .before .before .before .before .pre)) (λ c. omega (arith, c .before .before .before .before .before .pre))
     (λ c κs. rw (c .before .before .loop .inv .2 .kept .long) (omega (arith, c .before .before .before .before .before .pre)))
-    (λ c. omega (arith, c .before .before .before .before .before .before .before .before .pre))
-    (λ c. omega (arith, c .before .before .before .before .before .before .before .before .pre)) mul-low-2 slice-read-low (λ c. omega arith)
-    (λ c. omega arith) loop-again (λ c. c .before .loop .inv .2 .kept .long) returns)
+    (λ c. omega (arith, c .before .before .before .before .before .before .before .before .pre)) (λ c. omega (arith, c .before .before .before .before .before .before .before .before .pre))
+    (λ c. let s = c .before .before .before .before .before .before .before .before in omega (arith, s .pre, s .good .1 .1 .0))
+    (λ c. let d = c .before .before .before in omega (arith, d .before .before .before .before .before .before .pre, d .heap-record .ensures, d .before .before .before .loop .inv .2)) (λ c. omega arith) (λ c. omega arith)
+    (λ c. let d = c .before .before .before in let l = d .before .before .before .loop in
+    (omega arith, last-more (d .heap-record .last .1 .1 .0) (l .k), records-more (l .low) (l .k) (l .inv .1) (l .inv .2) (d .heap-record .ensures)))
+    (λ c. c .before .loop .inv .2 .kept .long)
+    (λ c. let l = c .before .loop in records-whole (c .before .before .before .before .args .count) (l .inv .0) (c .loop-test .left) (l .inv .2)))

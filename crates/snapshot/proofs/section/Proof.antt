@@ -8,18 +8,16 @@ use denote.Ref.{now}
 use denote.Enum.Laws as enum-laws
 use denote.Struct.Laws as struct-laws
 use Rattle.snapshot.specs.HeapLayout.{HeapFills}
-use Rattle.reader.specs.declared.Cursor.{Cursor}
 use Rattle.reader.specs.declared.Reader.{Reader}
 use Rattle.reader.proofs.Carry.{cursorVal, sliceOf, readerVal, IsCursor, cursor-is, cursor-told, cursor-makes, Bytes, parts-are}
 use Rattle.reader.proofs.Carry.{cursor-typed, reader-typed, made-typed, apart, together}
-use Rattle.reader.proofs.Walk.{URA, fullShare, named, Val, SProp, ent, sep, emp, id⊢, Lft, Share, Fml, ftrue, fat, flft, Memory}
-use Rattle.reader.proofs.Walk.{Routine, Heap, Calls, Loops, WpFn, FmC, fmOf, Atoms, sem, Fun, factI, givenOf, tables, tablesOf}
-use Rattle.reader.proofs.Walk.{Given, ‵, raw, _⊛_, _$_, _∵_, !, qed, move, keep, drop, use1, use2, split, join, fsplit, fjoin}
-use Rattle.reader.proofs.Walk.{rewrite, suffices, frame, done, agg, whole, sub, look-in, look, init, forget, stop, hop, fld, from}
-use Rattle.reader.proofs.Walk.{load, addr, of-opd, and-then, no-more, assigns, land, returns, enter, alloc1, alloc0, params1, pass1}
-use Rattle.reader.proofs.Walk.{pass0, free1, free0, owns, Is, u32, RefT, NamedLft, namedLft, MutSlice, slice-vals, mut-slice-tells}
-use Rattle.reader.proofs.Walk.{mut-slice-lawful, owned, calls-at, Vals, onEntry, Contract, Triple, cited, says, Promise, leaves}
-use Rattle.reader.proofs.Walk.{comes, keeps}
+use Rattle.reader.proofs.Walk.{URA, fullShare, named, Val, SProp, ent, sep, emp, id⊢, Lft, Share, Fml, ftrue, fat, flft, Memory, Routine}
+use Rattle.reader.proofs.Walk.{Heap, Calls, Loops, WpFn, FmC, fmOf, Atoms, sem, Fun, factI, givenOf, tables, tablesOf, Given, ‵, raw, _⊛_}
+use Rattle.reader.proofs.Walk.{_$_, _∵_, !, qed, move, keep, drop, use1, use2, split, join, fsplit, fjoin, rewrite, suffices, frame, done}
+use Rattle.reader.proofs.Walk.{agg, whole, sub, look-in, look, init, stop, hop, fld, from, addr, of-opd, and-then, no-more, land, returns}
+use Rattle.reader.proofs.Walk.{enter, alloc1, alloc0, params1, pass1, pass0, free0, owns, Is, u32, RefT, NamedLft, namedLft, MutSlice}
+use Rattle.reader.proofs.Walk.{slice-vals, mut-slice-tells, mut-slice-lawful, owned, calls-at, onEntry, Contract, Triple, cited, Promise}
+use Rattle.reader.proofs.Walk.{leaves, comes, keeps, local, part, sets, gone, goes}
 use Rattle.reader.proofs.Cursor as cursor
 use Rattle.reader.proofs.Cursor.Laws as cursor-laws
 use Rattle.reader.proofs.Reader as reader
@@ -52,40 +50,26 @@ module _ {M : Type 1} (𝓤 : URA M) (H : Heap 𝓤) (A : Atoms 𝓤) (W : Given
   abbrev b : Val
   b = sliceOf h
 
-  abbrev passed : Vals section.signature (κ, (μ, tt))
-  passed = (u ∷ [], (b ∷ [], tt))
-
   abbrev here : Here .Ghost
-  here = (((κ, (μ, tt)), (q, (p, tt)), tt, (d, (h, tt)), passed), tt)
+  here = (((κ, (μ, tt)), (q, (p, tt)), tt, (d, (h, tt)), (u ∷ [], (b ∷ [], tt))), tt)
 
   abbrev Start : SProp 𝓤
-  Start = onEntry 𝓤 H A section.signature (κ, (μ, tt)) (q, (p, tt)) (d, (h, tt)) passed
-
-  abbrev handed : Vals below.signature (κ, (μ, tt))
-  handed = (v ∷ [], (cursorVal (d .at) ∷ [], (b ∷ [], tt)))
+  Start = onEntry 𝓤 H A section.signature (κ, (μ, tt)) (q, (p, tt)) (d, (h, tt)) (here .0 .4)
 
   abbrev there : There .Ghost
-  there = (((κ, (μ, tt)), (q, (p, tt)), tt, (d .bytes, (d .at, (h, tt))), handed), tt)
+  there = (((κ, (μ, tt)), (q, (p, tt)), tt, (d .bytes, (d .at, (h, tt))), (v ∷ [], (cursorVal (d .at) ∷ [], (b ∷ [], tt)))), tt)
 
   abbrev Slice : Fml
   Slice = Bytes α .own (d .bytes) (v ∷ [])
 
-  goes : length (h .now) ≡ 97 → ent 𝓤 (onEntry 𝓤 H A below.signature (κ, (μ, tt)) (q, (p, tt)) (d .bytes, (d .at, (h, tt))) handed) (There .pre there)
-  goes long =
-      qed W ((‵ (flft κ q) ⊛ (‵ (flft μ p) ⊛ ‵ ftrue)) ∷ ‵ (owns (Bytes α ∷ cursor.the-row ∷ MutSlice (named 1) μ u32 ∷ []) (d .bytes, (d .at, (h, tt))) handed) ∷ []) ∵
-      says ! long $ frame ! $ done !
-
   -- one copy of the slice goes to the call, the other stays
   to-below : IsCursor (d .at) → length (h .now) ≡ 97 → ent 𝓤 Start (sep 𝓤 (There .pre there) (sem 𝓤 H A Slice))
   to-below is long =
-      qed W ((‵ (flft κ q) ⊛ (‵ (flft μ p) ⊛ ‵ ftrue)) ∷ ‵ (owns (reader.the-row α ∷ MutSlice (named 1) μ u32 ∷ []) (d, (h, tt)) passed) ∷ []) ∵
+      qed W ((‵ (flft κ q) ⊛ (‵ (flft μ p) ⊛ ‵ ftrue)) ∷ ‵ (owns (reader.the-row α ∷ MutSlice (named 1) μ u32 ∷ []) (d, (h, tt)) (here .0 .4)) ∷ []) ∵
       move ! (1 ∷ []) $ fsplit ! $ use1 W (‵ Slice ⊛ ‵ Slice) (apart α 𝓤 H A W d u) $ split ! $ move ! (2 ∷ []) $
       owned ! cursor.the-row (Is cursor.the-row) (cursor-makes 𝓤 H A) (d .at) _ is $ fjoin ! $
       -- [cursor and block; the slice; the slice; the tokens]
-      move ! (1 ∷ 0 ∷ []) $ fjoin ! $ move ! (2 ∷ 0 ∷ []) $ use2 W (raw (There .pre there)) (goes long) $ frame ! $ done !
-
-  abbrev Told : Cursor → List ℕ → Type 0
-  Told c zs = HeapFills (now (d .bytes)) (d .at) (h .now) zs c
+      move ! (1 ∷ 0 ∷ []) $ fjoin ! $ move ! (2 ∷ 0 ∷ []) $ use2 W (raw (There .pre there)) (goes 𝓤 H A below.ended (below.clauses 𝓤 H A mem run) W there (factI 𝓤 _ (emp 𝓤) long)) $ frame ! $ done !
 
   walk : Is (reader.the-row α) d (u ∷ []) → Is (MutSlice (named 1) μ u32) h (b ∷ []) → length (h .now) ≡ 97 → FmC 𝓤 H (W .laws) C
       → Triple 𝓤 (C below-code.name) There → ent 𝓤 Start (WpFn 𝓤 H C Λ code.function (u ∷ b ∷ []) (Here .post here))
@@ -94,46 +78,42 @@ module _ {M : Type 1} (𝓤 : URA M) (H : Heap 𝓤) (A : Atoms 𝓤) (W : Given
       let typed = reader-typed α 𝓤 H A W d u is in
       let block = mut-slice-lawful 𝓤 H A W (named 1) μ u32 .typed h (b ∷ []) room .0 in
       qed W (raw Start ∷ []) ∵ enter ! C Λ code.function (u ∷ b ∷ []) _ $
-      alloc1 ! (λ l₀. alloc1 ! (λ l₁. alloc1 ! (λ l₂. alloc1 ! (λ l₃. alloc1 ! (λ l₄. alloc1 ! (λ l₅. alloc1 ! (λ l₆. alloc1 ! (λ l₇. alloc1 ! (λ l₈. alloc0 ! $
+      alloc1 !
+      (λ l₀. alloc1 ! (λ l₁. alloc1 ! (λ l₂. alloc1 ! (λ l₃. alloc1 ! (λ l₄. alloc1 ! (λ l₅. alloc1 ! (λ l₆. alloc1 ! (λ l₇. alloc1 ! (λ l₈. alloc0 ! $
       params1 ! $ pass1 ! (init ! 14 refl typed) $ pass1 ! (init ! 12 refl block) $ pass0 ! $
-      assigns ! (of-opd ! (load ! (from ! (fld ! refl (stop !))) (look-in ! 14 (sub ! 0 refl (whole !))))) (from ! (stop !)) (init ! 8 refl (tt, typed .1 .0)) $
-      assigns ! (of-opd ! (load ! (from ! (fld ! refl (stop !))) (look-in ! 14 (sub ! 1 refl (whole !))))) (from ! (stop !))
-      (init ! 6 refl (cursor-typed α 𝓤 H A W (d .at) (parts .1))) $
-      assigns ! (addr ! (from ! (fld ! refl (hop ! (look-in ! 12 (sub ! 0 refl (whole !))) (stop !))))) (from ! (stop !)) (init ! 4 refl (tt, tt)) $
-      assigns ! (agg ! (and-then ! (load ! (from ! (stop !)) (look ! 4 refl)) (and-then ! (load ! (from ! (fld ! refl (stop !))) (look-in ! 12 (sub ! 1 refl (whole !)))) (no-more !))))
-      (from ! (stop !)) (init ! 2 refl (tt, block .1)) $
-      move ! (18 ∷ []) $ use1 W (raw (There .pre there) ⊛ ‵ Slice) (to-below (parts .1) long) $ split ! $
+      sets ! (of-opd ! (part ! 14 0 refl refl refl)) 8 refl refl (tt, typed .1 .0) $
+      sets ! (of-opd ! (part ! 14 1 refl refl refl)) 6 refl refl (cursor-typed α 𝓤 H A W (d .at) (parts .1)) $
+      sets ! (addr ! (from ! (fld ! refl (hop ! (look-in ! 12 (sub ! 0 refl (whole !))) (stop !))))) 4 refl refl (tt, tt) $
+      sets ! (agg ! (and-then ! (local ! 4 refl) (and-then ! (part ! 12 1 refl refl refl) (no-more !)))) 2 refl refl (tt, block .1) $ move ! (18 ∷ []) $
+      use1 W (raw (There .pre there) ⊛ ‵ Slice) (to-below (parts .1) long) $ split ! $
       -- [the call; the slice; room for _8; …; _7; …; _6; …; _5; …; _4; …; room for _3; …; _2; …; _1; …; room for _0; …]
-      calls-at ! fm There known there (and-then ! (load ! (from ! (stop !)) (look ! 10 refl))
-      (and-then ! (load ! (from ! (stop !)) (look ! 8 refl)) (and-then ! (load ! (from ! (stop !)) (look ! 4 refl)) (no-more !)))) (λ w.
-      comes 𝓤 H A below.ended (below.clauses 𝓤 H A mem run) there w ! tt (λ c ws. Told c (ws .1 .1 .0)) (λ c ws. id⊢ 𝓤 _) (λ c ws told cis.
+      calls-at ! fm There known there (and-then ! (local ! 10 refl) (and-then ! (local ! 8 refl) (and-then ! (local ! 4 refl) (no-more !))))
+      (λ w. comes 𝓤 H A below.ended (below.clauses 𝓤 H A mem run) there w ! tt (λ c ws. HeapFills (now (d .bytes)) (d .at) (h .now) (ws .1 .1 .0) c)
+      (λ c ws. id⊢ 𝓤 _) (λ c ws told cis.
       let at = cursor-told c w cis in
       -- [the cursor; the tokens; the last list; the slice; room for _8; …; _7; …; _6; …; _5; …; _4; …; room for _3; …; _2; …; _1; …; room for _0; …]
       rewrite ! 0 (λ (z : Val). ‵ (cursor.the-row .own c (z ∷ []))) (cursor-is c w cis) refl $
       land ! (from ! (stop !)) (init ! 14 refl (enum-laws.lawful cursor.the-type cursor-laws.the-laws 𝓤 H A W tt .typed c _ cis .0)) $
       rewrite ! 14 (λ (z : Val). ‵ (fat fullShare cursor-laws.mir l₃ 0 z)) (cursor-is c w cis) refl $
-      assigns ! (of-opd ! (load ! (from ! (fld ! refl (stop !))) (look-in ! 18 (sub ! 0 refl (whole !))))) (from ! (stop !)) (init ! 4 refl (tt, typed .1 .0)) $
-      assigns ! (agg ! (and-then ! (load ! (from ! (stop !)) (look ! 4 refl)) (and-then ! (load ! (from ! (stop !)) (look ! 14 refl)) (no-more !)))) (from ! (stop !))
-      (init ! 20 refl (made-typed α 𝓤 H A W (d .bytes) c (parts .0) at)) $
-      returns ! (look ! 20 refl) $ forget ! 4 refl $ forget ! 6 refl $ forget ! 8 refl $ forget ! 10 refl $ forget ! 12 refl $ forget ! 14 refl $
-      forget ! 16 refl $ forget ! 18 refl $ forget ! 20 refl $ move ! (20 ∷ 21 ∷ []) $ free1 ! $ move ! (18 ∷ 19 ∷ []) $ free1 ! $
-      move ! (16 ∷ 17 ∷ []) $ free1 ! $ move ! (14 ∷ 15 ∷ []) $ free1 ! $ move ! (12 ∷ 13 ∷ []) $ free1 ! $ move ! (10 ∷ 11 ∷ []) $ free1 ! $
-      move ! (8 ∷ 9 ∷ []) $ free1 ! $ move ! (6 ∷ 7 ∷ []) $ free1 ! $ move ! (4 ∷ 5 ∷ []) $ free1 ! $ free0 ! $
-      suffices ! _ (leaves 𝓤 H A section.ended (section.clauses 𝓤 H A mem run) here _ W (record { bytes = d .bytes; at = c }) (tt, (ws .1 .1 .0, tt)) (factI 𝓤 _ (emp 𝓤) (refl, told))) $
-      move ! (3 ∷ []) $ use1 W (‵ (reader.the-row α .own (record { bytes = d .bytes; at = c }) (readerVal (d .bytes) c ∷ []))) (together α 𝓤 H A W (d .bytes) c at) $
+      sets ! (of-opd ! (part ! 18 0 refl refl refl)) 4 refl refl (tt, typed .1 .0) $
+      sets ! (agg ! (and-then ! (local ! 4 refl) (and-then ! (local ! 14 refl) (no-more !)))) 20 refl refl (made-typed α 𝓤 H A W (d .bytes) c (parts .0) at) $
+      returns ! (look ! 20 refl) $ gone ! 20 refl refl $ gone ! 18 refl refl $ gone ! 16 refl refl $ gone ! 14 refl refl $ gone ! 12 refl refl $
+      gone ! 10 refl refl $ gone ! 8 refl refl $ gone ! 6 refl refl $ gone ! 4 refl refl $ free0 ! $
+      suffices ! _ (leaves 𝓤 H A section.ended (section.clauses 𝓤 H A mem run) here _ W (record { bytes = d .bytes; at = c }) (tt, (ws .1 .1 .0, tt))
+      (factI 𝓤 _ (emp 𝓤) (refl, told))) $ move ! (3 ∷ []) $
+      use1 W (‵ (reader.the-row α .own (record { bytes = d .bytes; at = c }) (readerVal (d .bytes) c ∷ []))) (together α 𝓤 H A W (d .bytes) c at) $
       move ! (2 ∷ 0 ∷ []) $ join ! $ frame ! $ move ! (1 ∷ []) $ fsplit ! $ drop ! $ keep ! (0 ∷ []) $ done !)))))))))))
 
 pub section-spec : {M : Type 1} → stated.statement M
 unfolding code.routine tablesOf
 section-spec 𝓤 H 𝓜 𝓖 𝓡 =
-    let C = tables 𝓤 H 𝓜 𝓡 code.env .C in
-    let Λ = tables 𝓤 H 𝓜 𝓡 code.env .Λ in
+    let T = tables 𝓤 H 𝓜 𝓡 code.env in
     let W = givenOf 𝓤 H 𝓜 𝓖 in
-    keeps 𝓤 H (𝓖 .A) section.ended (section.clauses 𝓤 H (𝓖 .A) (𝓜 .mem) (𝓡 .run)) C Λ code.function
+    keeps 𝓤 H (𝓖 .A) section.ended (section.clauses 𝓤 H (𝓖 .A) (𝓜 .mem) (𝓡 .run)) (T .C) (T .Λ) code.function
     (λ κs. (struct-laws.vals (reader.the-type (namedLft 2 0 tt κs)) (reader-laws.the-laws (namedLft 2 0 tt κs)), (slice-vals, tt)))
     (λ κs a. length (a .1 .0 .now) ≡ 97) (λ κs a g. id⊢ 𝓤 _) key.name (code.unfolded 𝓤 H 𝓜 𝓡)
     (λ κs. (struct-laws.tells (reader.the-type (namedLft 2 0 tt κs)) (reader-laws.the-laws (namedLft 2 0 tt κs)), (mut-slice-tells (named 1) (κs .1 .0) u32, tt)))
     (λ κs qs bounds a g long are.
-    walk 𝓤 H (𝓖 .A) W (𝓜 .mem) (𝓡 .run) C Λ (κs .0) (κs .1 .0) (qs .0) (qs .1 .0) (a .0) (a .1 .0) (are .0) (are .1 .0) long
-    (fmOf 𝓤 H (W .laws) (tablesOf 𝓤 H 𝓜 (tables 𝓤 H 𝓜 𝓡 code.env)))
+    walk 𝓤 H (𝓖 .A) W (𝓜 .mem) (𝓡 .run) (T .C) (T .Λ) (κs .0) (κs .1 .0) (qs .0) (qs .1 .0) (a .0) (a .1 .0) (are .0) (are .1 .0) long
+    (fmOf 𝓤 H (W .laws) (tablesOf 𝓤 H 𝓜 T))
     (cited 𝓤 H _ 𝓜 𝓡 code.env below-code.name below-code.routine code.calls-snapshot·counted-records (below-met.met 𝓤 H 𝓜 𝓖 𝓡)))

@@ -5,7 +5,7 @@ use lib.ListN.{length-set}
 use Rattle.semantics.specs.Formats.{query, readQuery}
 use Rattle.book.specs.BookLayout.{aritiesIn}
 use Rattle.reader.proofs.Finishing.{finish-is}
-use Rattle.formats.proofs.QueryParts.{query-fills, first-stored, second-stored, stored-long}
+use Rattle.formats.proofs.QueryParts.{query-fills, first-stored, second-stored}
 use borrow.Author.Needs.{needs}
 use Rattle.formats.proofs.question.read_query.Statement.{statement}
 use Rattle.formats.proofs.question.read_query.Tie as tie
@@ -31,7 +31,7 @@ returns c =
           (finish-is 9 (query (aritiesIn (c .before .before .before .before .before .before .before .before .before .before .before .before .before .before .args .rules .now)))
           (query-fills (p .0) (c .before .before .before .before .before .before .before .before .before .before .below .ensures) (c .before .before .before .before .before .before .before .ranged .ensures) (x .ensures .0) (k .ensures .0) (first-stored q (x .result) (k .result) (p .1))
           (second-stored q (x .result) (k .result) (p .1)) values));
-      long = values .kept .long ∙ stored-long q (x .result) (k .result);
+      long = values .kept .long ∙ simp length-set;
     }
 
 pub read-query-spec : {M : Type 1} → statement M

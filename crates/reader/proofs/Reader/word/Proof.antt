@@ -14,11 +14,11 @@ use Rattle.reader.proofs.Carry.{cursorVal, sliceOf, readerVal, IsCursor
 use Rattle.reader.proofs.Carry.{reader-typed, apart}
 use Rattle.reader.proofs.Walk.{URA, fullShare, w8, w32, Val, vint, SProp, ent, sep, emp, id⊢, Lft, Share, Fml, ftrue, fat, flft}
 use Rattle.reader.proofs.Walk.{Memory, Routine, Heap, Calls, Loops, WpFn, FmC, fmOf, Atoms, sem, Fun, factI, givenOf, tables}
-use Rattle.reader.proofs.Walk.{tablesOf, Given, ‵, raw, _⊛_, _$_, _∵_, !, qed, by, move, keep, use1, split, join, fsplit, fjoin}
-use Rattle.reader.proofs.Walk.{rewrite, suffices, frame, done, agg, whole, sub, look-in, look, init, forget, stop, fld, from, load}
-use Rattle.reader.proofs.Walk.{of-opd, and-then, no-more, assigns, land, returns, enter, alloc1, alloc0, params1, pass1, pass0}
-use Rattle.reader.proofs.Walk.{free1, free0, owns, Is, uint-vals, uint-tells, uint-makes, u8, u32, NamedLft, namedLft, nothing}
-use Rattle.reader.proofs.Walk.{owned, only, calls-at, Vals, onEntry, Contract, Triple, cited, Promise, leaves, comes, keeps}
+use Rattle.reader.proofs.Walk.{tablesOf, Given, ‵, raw, _⊛_, _$_, _∵_, !, qed, move, keep, use1, split, join, fsplit, fjoin, rewrite}
+use Rattle.reader.proofs.Walk.{suffices, frame, done, agg, look, init, stop, from, of-opd, and-then, no-more, land, returns, enter}
+use Rattle.reader.proofs.Walk.{alloc1, alloc0, params1, pass1, pass0, gone, free0, owns, Is, uint-vals, uint-tells, uint-makes, u8}
+use Rattle.reader.proofs.Walk.{u32, NamedLft, namedLft, nothing, owned, only, calls-at, onEntry, Contract, Triple, cited, Promise}
+use Rattle.reader.proofs.Walk.{leaves, comes, keeps, local, part, sets, goes}
 use Rattle.reader.proofs.Cursor as cursor
 use Rattle.reader.proofs.Number as number
 use Rattle.reader.proofs.Number.Laws as number-laws
@@ -51,20 +51,14 @@ module _ {M : Type 1} (𝓤 : URA M) (H : Heap 𝓤) (A : Atoms 𝓤) (W : Given
   abbrev v : Val
   v = sliceOf (d .bytes)
 
-  abbrev passed : Vals word.signature (κ, tt)
-  passed = (u ∷ [], (vint w8 short ∷ [], tt))
-
   abbrev here : Here .Ghost
-  here = (((κ, tt), (q, tt), tt, (d, (short, tt)), passed), tt)
+  here = (((κ, tt), (q, tt), tt, (d, (short, tt)), (u ∷ [], (vint w8 short ∷ [], tt))), tt)
 
   abbrev Start : SProp 𝓤
-  Start = onEntry 𝓤 H A word.signature (κ, tt) (q, tt) (d, (short, tt)) passed
-
-  abbrev handed : Vals below.signature (κ, tt)
-  handed = (v ∷ [], (cursorVal (d .at) ∷ [], (vint w8 short ∷ [], tt)))
+  Start = onEntry 𝓤 H A word.signature (κ, tt) (q, tt) (d, (short, tt)) (here .0 .4)
 
   abbrev there : There .Ghost
-  there = (((κ, tt), (q, tt), tt, (d .bytes, (d .at, (short, tt))), handed), tt)
+  there = (((κ, tt), (q, tt), tt, (d .bytes, (d .at, (short, tt))), (v ∷ [], (cursorVal (d .at) ∷ [], (vint w8 short ∷ [], tt)))), tt)
 
   abbrev Slice : Fml
   Slice = Bytes α .own (d .bytes) (v ∷ [])
@@ -72,14 +66,11 @@ module _ {M : Type 1} (𝓤 : URA M) (H : Heap 𝓤) (A : Atoms 𝓤) (W : Given
   -- one copy of the slice goes to the call, the other stays
   to-below : IsCursor (d .at) → ent 𝓤 Start (sep 𝓤 (There .pre there) (sem 𝓤 H A Slice))
   to-below is =
-      qed W ((‵ (flft κ q) ⊛ ‵ ftrue) ∷ ‵ (owns (reader.the-row α ∷ u8 ∷ []) (d, (short, tt)) passed) ∷ []) ∵ move ! (1 ∷ []) $ fsplit ! $
+      qed W ((‵ (flft κ q) ⊛ ‵ ftrue) ∷ ‵ (owns (reader.the-row α ∷ u8 ∷ []) (d, (short, tt)) (here .0 .4)) ∷ []) ∵ move ! (1 ∷ []) $ fsplit ! $
       use1 W (‵ Slice ⊛ ‵ Slice) (apart α 𝓤 H A W d u) $ split ! $ move ! (2 ∷ []) $
       owned ! cursor.the-row (Is cursor.the-row) (cursor-makes 𝓤 H A) (d .at) _ is $ fjoin ! $
       -- [cursor and short; the slice; the slice; the token]
       move ! (1 ∷ 0 ∷ []) $ fjoin ! $ move ! (2 ∷ 0 ∷ []) $ join ! $ nothing ! $ move ! (1 ∷ 0 ∷ []) $ join ! $ frame ! $ done !
-
-  abbrev Told : Number → Type 0
-  Told n = Yields (wordReader short) (now (d .bytes)) (d .at) (n .cursor) (n .value)
 
   abbrev made : Number → Word
   made n = record { bytes = d .bytes; at = n .cursor; value = n .value }
@@ -89,19 +80,6 @@ module _ {M : Type 1} (𝓤 : URA M) (H : Heap 𝓤) (A : Atoms 𝓤) (W : Given
       let fields = struct-laws.owed number.the-type number-laws.the-laws n (w ∷ []) is in
       struct-laws.owes (word-of.the-type α) (word-laws.the-laws α) (made n) (p, (fields .0, (fields .1 .0, tt)))
 
-  exits : (n : Number) (w : Val) → Told n → Is number.the-row n (w ∷ []) → ent 𝓤 (sep 𝓤 (sep 𝓤 (sem 𝓤 H A (flft κ q)) (sem 𝓤 H A ftrue)) (sem 𝓤 H A Slice))
-      (Here .post here (struct-laws.val (word-of.the-type α) (word-laws.the-laws α) (made n)))
-  exits n w told is =
-      let fields = struct-laws.owed number.the-type number-laws.the-laws n (w ∷ []) is in
-      qed W ((‵ (flft κ q) ⊛ ‵ ftrue) ∷ ‵ Slice ∷ []) ∵
-      suffices ! _ (leaves 𝓤 H A word.ended (word.clauses 𝓤 H A mem run) here _ W (made n) (tt, (tt, tt)) (factI 𝓤 _ (emp 𝓤) (refl, told))) $
-      move ! (1 ∷ []) $ nothing ! $ owned ! u32 (Is u32) (uint-makes 𝓤 H A W w32) (n .value) _ (fields .1 .0) $ fjoin ! $
-      owned ! cursor.the-row (Is cursor.the-row) (cursor-makes 𝓤 H A) (n .cursor) _ (fields .0) $ fjoin ! $
-      move ! (1 ∷ 0 ∷ []) $ fjoin ! $
-      use1 W (‵ (word-of.the-row α .own (made n) (struct-laws.vals (word-of.the-type α) (word-laws.the-laws α) (made n))))
-      (own-shut 𝓤 H A W (word-of.the-type α) (word-laws.the-laws α) (d .bytes, (n .cursor, (n .value, tt)))) $
-      move ! (1 ∷ 0 ∷ []) $ join ! $ frame ! $ nothing ! $ nothing ! $ fjoin ! $ nothing ! $ fjoin ! $ done !
-
   walk : IsBytes α (d .bytes) → IsCursor (d .at) → Is (reader.the-row α) d (u ∷ []) → short < 2 ^ 8 → FmC 𝓤 H (W .laws) C → Triple 𝓤 (C below-code.name) There
       → ent 𝓤 Start (WpFn 𝓤 H C Λ code.function (u ∷ vint w8 short ∷ []) (Here .post here))
   walk p c is small fm known =
@@ -109,36 +87,40 @@ module _ {M : Type 1} (𝓤 : URA M) (H : Heap 𝓤) (A : Atoms 𝓤) (W : Given
       qed W (raw Start ∷ []) ∵ enter ! C Λ code.function (u ∷ vint w8 short ∷ []) _ $
       alloc1 ! (λ l₀. alloc1 ! (λ l₁. alloc1 ! (λ l₂. alloc1 ! (λ l₃. alloc1 ! (λ l₄. alloc1 ! (λ l₅. alloc1 ! (λ l₆. alloc0 ! $ params1 ! $
       pass1 ! (init ! 10 refl typed) $ pass1 ! (init ! 8 refl (tt, record { fits = small })) $ pass0 ! $
-      assigns ! (of-opd ! (load ! (from ! (fld ! refl (stop !))) (look-in ! 10 (sub ! 0 refl (whole !))))) (from ! (stop !)) (init ! 4 refl (tt, typed .1 .0)) $
-      assigns ! (of-opd ! (load ! (from ! (fld ! refl (stop !))) (look-in ! 10 (sub ! 1 refl (whole !))))) (from ! (stop !)) (init ! 2 refl (cursor-typed α 𝓤 H A W (d .at) c)) $
-      move ! (14 ∷ []) $ use1 W (raw (There .pre there) ⊛ ‵ Slice) (to-below c) $ split ! $
+      sets ! (of-opd ! (part ! 10 0 refl refl refl)) 4 refl refl (tt, typed .1 .0) $
+      sets ! (of-opd ! (part ! 10 1 refl refl refl)) 2 refl refl (cursor-typed α 𝓤 H A W (d .at) c) $ move ! (14 ∷ []) $
+      use1 W (raw (There .pre there) ⊛ ‵ Slice) (to-below c) $ split ! $
       -- [the call; the slice; room for _6; …; _5; …; _4; …; room for _3; …; _2; …; _1; …; room for _0; …]
-      calls-at ! fm There known there (and-then ! (load ! (from ! (stop !)) (look ! 6 refl))
-      (and-then ! (load ! (from ! (stop !)) (look ! 4 refl)) (and-then ! (load ! (from ! (stop !)) (look ! 10 refl)) (no-more !)))) (λ w.
-      comes 𝓤 H A below.ended (below.clauses 𝓤 H A mem run) there w ! tt (λ n ws. Told n) (λ n ws. id⊢ 𝓤 _) (λ n ws told nis.
+      calls-at ! fm There known there (and-then ! (local ! 6 refl) (and-then ! (local ! 4 refl) (and-then ! (local ! 10 refl) (no-more !))))
+      (λ w. comes 𝓤 H A below.ended (below.clauses 𝓤 H A mem run) there w ! tt
+      (λ n ws. Yields (wordReader short) (now (d .bytes)) (d .at) (n .cursor) (n .value)) (λ n ws. id⊢ 𝓤 _) (λ n ws told nis.
+      let fields = struct-laws.owed number.the-type number-laws.the-laws n (w ∷ []) nis in
       -- [the number; the token; last values; the slice; room for _6; …; _5; …; _4; …; room for _3; …]
       land ! (from ! (stop !)) (init ! 10 refl (struct-laws.lawful number.the-type number-laws.the-laws 𝓤 H A W .typed n _ nis .0)) $
       rewrite ! 10 (λ (z : Val). ‵ (fat fullShare number-laws.mir l₃ 0 z)) (ap only (struct-laws.tells number.the-type number-laws.the-laws n _ nis)) refl $
-      assigns ! (of-opd ! (load ! (from ! (fld ! refl (stop !))) (look-in ! 14 (sub ! 0 refl (whole !))))) (from ! (stop !)) (init ! 4 refl (tt, typed .1 .0)) $
-      assigns ! (agg ! (and-then ! (load ! (from ! (stop !)) (look ! 4 refl)) (and-then ! (load ! (from ! (fld ! refl (stop !))) (look-in ! 10 (sub ! 0 refl (whole !))))
-      (and-then ! (load ! (from ! (fld ! refl (stop !))) (look-in ! 10 (sub ! 1 refl (whole !)))) (no-more !))))) (from ! (stop !))
-      (init ! 16 refl (struct-laws.lawful (word-of.the-type α) (word-laws.the-laws α) 𝓤 H A W .typed (made n) _ (is-made n w p nis) .0)) $
-      returns ! (look ! 16 refl) $
-      forget ! 4 refl $ forget ! 6 refl $ forget ! 8 refl $ forget ! 10 refl $ forget ! 12 refl $ forget ! 14 refl $ forget ! 16 refl $
-      move ! (16 ∷ 17 ∷ []) $ free1 ! $ move ! (14 ∷ 15 ∷ []) $ free1 ! $ move ! (12 ∷ 13 ∷ []) $ free1 ! $ move ! (10 ∷ 11 ∷ []) $ free1 ! $
-      move ! (8 ∷ 9 ∷ []) $ free1 ! $ move ! (6 ∷ 7 ∷ []) $ free1 ! $ move ! (4 ∷ 5 ∷ []) $ free1 ! $ free0 ! $ keep ! (1 ∷ 3 ∷ []) $ by ! (exits n w told nis))))))))))
+      sets ! (of-opd ! (part ! 14 0 refl refl refl)) 4 refl refl (tt, typed .1 .0) $
+      sets !
+      (agg ! (and-then ! (local ! 4 refl) (and-then ! (part ! 10 0 refl refl refl) (and-then ! (part ! 10 1 refl refl refl) (no-more !))))) 16 refl refl
+      (struct-laws.lawful (word-of.the-type α) (word-laws.the-laws α) 𝓤 H A W .typed (made n) _ (is-made n w p nis) .0) $ returns ! (look ! 16 refl) $
+      gone ! 16 refl refl $ gone ! 14 refl refl $ gone ! 12 refl refl $ gone ! 10 refl refl $ gone ! 8 refl refl $ gone ! 6 refl refl $ gone ! 4 refl refl $
+      free0 ! $ keep ! (1 ∷ 3 ∷ []) $
+      suffices ! _ (leaves 𝓤 H A word.ended (word.clauses 𝓤 H A mem run) here _ W (made n) (tt, (tt, tt)) (factI 𝓤 _ (emp 𝓤) (refl, told))) $
+      move ! (1 ∷ []) $ nothing ! $ owned ! u32 (Is u32) (uint-makes 𝓤 H A W w32) (n .value) _ (fields .1 .0) $ fjoin ! $
+      owned ! cursor.the-row (Is cursor.the-row) (cursor-makes 𝓤 H A) (n .cursor) _ (fields .0) $ fjoin ! $ move ! (1 ∷ 0 ∷ []) $ fjoin ! $
+      use1 W (‵ (word-of.the-row α .own (made n) (struct-laws.vals (word-of.the-type α) (word-laws.the-laws α) (made n))))
+      (own-shut 𝓤 H A W (word-of.the-type α) (word-laws.the-laws α) (d .bytes, (n .cursor, (n .value, tt)))) $ move ! (1 ∷ 0 ∷ []) $ join ! $ frame ! $
+      nothing ! $ nothing ! $ fjoin ! $ nothing ! $ fjoin ! $ done !)))))))))
 
 pub word-spec : {M : Type 1} → stated.statement M
 unfolding code.routine tablesOf
 word-spec 𝓤 H 𝓜 𝓖 𝓡 =
-    let C = tables 𝓤 H 𝓜 𝓡 code.env .C in
-    let Λ = tables 𝓤 H 𝓜 𝓡 code.env .Λ in
+    let T = tables 𝓤 H 𝓜 𝓡 code.env in
     let W = givenOf 𝓤 H 𝓜 𝓖 in
-    keeps 𝓤 H (𝓖 .A) word.ended (word.clauses 𝓤 H (𝓖 .A) (𝓜 .mem) (𝓡 .run)) C Λ code.function
+    keeps 𝓤 H (𝓖 .A) word.ended (word.clauses 𝓤 H (𝓖 .A) (𝓜 .mem) (𝓡 .run)) (T .C) (T .Λ) code.function
     (λ κs. (struct-laws.vals (reader.the-type (namedLft 1 0 tt κs)) (reader-laws.the-laws (namedLft 1 0 tt κs)), (uint-vals w8, tt)))
     (λ κs a. Unit {0}) (λ κs a g. factI 𝓤 _ _ tt) key.name (code.unfolded 𝓤 H 𝓜 𝓡)
     (λ κs. (struct-laws.tells (reader.the-type (namedLft 1 0 tt κs)) (reader-laws.the-laws (namedLft 1 0 tt κs)), (uint-tells w8, tt)))
     (λ κs qs bounds a g x are. let parts = parts-are (namedLft 1 0 tt κs) (a .0) _ (are .0) in
-    walk 𝓤 H (𝓖 .A) W (𝓜 .mem) (𝓡 .run) C Λ (κs .0) (qs .0) (a .0) (a .1 .0) (parts .0) (parts .1) (are .0)
-    (are .1 .0 .1) (fmOf 𝓤 H (W .laws) (tablesOf 𝓤 H 𝓜 (tables 𝓤 H 𝓜 𝓡 code.env)))
+    walk 𝓤 H (𝓖 .A) W (𝓜 .mem) (𝓡 .run) (T .C) (T .Λ) (κs .0) (qs .0) (a .0) (a .1 .0) (parts .0) (parts .1) (are .0)
+    (are .1 .0 .1) (fmOf 𝓤 H (W .laws) (tablesOf 𝓤 H 𝓜 T))
     (cited 𝓤 H _ 𝓜 𝓡 code.env below-code.name below-code.routine code.calls-reader·fields·word (below-met.met 𝓤 H 𝓜 𝓖 𝓡)))
