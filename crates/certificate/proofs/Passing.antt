@@ -1,6 +1,7 @@
 -- What the loops over a rule's calls and points-to atoms pass: what is left of a join after the first call or atom, and at the end.
 use mathlib.Core.Path.{_≡_, sym, ap₂, _∙_}
 use mathlib.Core.List.{List, [], _∷_}
+use mathlib.Core.Logic.{_↔_}
 use Prim.Native.Nat.{ℕ, _+_, _/_, _%_, _^_, _≤_, _<_}
 use native.Mathlib.Omega.{arith}
 use native.Mathlib.Numerals.{add-one}
@@ -51,31 +52,21 @@ pub record FirstCall (rules : List ℕ) (rule : ℕ) (words : List ℕ) (k : ℕ
   pub apart : bitAnd (partOf (factAt words (lines % 65536))) used ≡ 0
   pub rest : CallsFrom rules rule words k σ part (c + 1) (lines / 65536) (partOf (factAt words (lines % 65536)) + used)
 
-module _ (rules : List ℕ) (rule c : ℕ) where
-  calls-next : c < callCount rules rule → drop c (ruleIn rules rule .calls) ≡ callIn rules (callPlace rule c) ∷ drop (c + 1) (ruleIn rules rule .calls)
-  calls-next h = drop-next (callCount rules rule) (λ i. callIn rules (callPlace rule i)) c h
+module _ (rules : List ℕ) (rule c : ℕ) {words : List ℕ} {k : ℕ} {σ : List ℕ} {part lines used : ℕ} where
+  pub calls-step : c < callCount rules rule → CallsFrom rules rule words k σ part c lines used ↔ FirstCall rules rule words k σ part c lines used
+  calls-step h = (λ j. first (rw next at j), λ f. rw next (CallsJoin.next (f .line) (f .apart) (f .rest)))
+    where
+      next : drop c (ruleIn rules rule .calls) ≡ callIn rules (callPlace rule c) ∷ drop (c + 1) (ruleIn rules rule .calls)
+      next = drop-next (callCount rules rule) (λ i. callIn rules (callPlace rule i)) c h
 
-  calls-none : callCount rules rule ≤ c → drop c (ruleIn rules rule .calls) ≡ []
-  calls-none h = drop-end (callCount rules rule) (λ i. callIn rules (callPlace rule i)) c h
+      first : CallsJoin words k σ part (callIn rules (callPlace rule c) ∷ drop (c + 1) (ruleIn rules rule .calls)) lines used → FirstCall rules rule words k σ part c lines used
+      first (CallsJoin.next l a r) = record { line = l; apart = a; rest = r }
 
-  module _ {words : List ℕ} {k : ℕ} {σ : List ℕ} {part lines used : ℕ} where
-    pub calls-first : c < callCount rules rule → CallsFrom rules rule words k σ part c lines used → FirstCall rules rule words k σ part c lines used
-    calls-first h j = step (rw (calls-next h) at j)
-      where
-        step : CallsJoin words k σ part (callIn rules (callPlace rule c) ∷ drop (c + 1) (ruleIn rules rule .calls)) lines used → FirstCall rules rule words k σ part c lines used
-        step (CallsJoin.next l a r) = record { line = l; apart = a; rest = r }
-
-    pub calls-more : c < callCount rules rule → FirstCall rules rule words k σ part c lines used → CallsFrom rules rule words k σ part c lines used
-    calls-more h f = rw (calls-next h) (CallsJoin.next (f .line) (f .apart) (f .rest))
-
-    pub calls-end : callCount rules rule ≤ c → lines ≡ 0 → used ≡ part → CallsFrom rules rule words k σ part c lines used
-    calls-end h e u = rw (calls-none h) (CallsJoin.done e u)
-
-    pub calls-ended : callCount rules rule ≤ c → CallsFrom rules rule words k σ part c lines used → (lines ≡ 0) × (used ≡ part)
-    calls-ended h j = step (rw (calls-none h) at j)
-      where
-        step : CallsJoin words k σ part [] lines used → (lines ≡ 0) × (used ≡ part)
-        step (CallsJoin.done e u) = (e, u)
+  pub calls-done : callCount rules rule ≤ c → CallsFrom rules rule words k σ part c lines used ↔ ((lines ≡ 0) × (used ≡ part))
+  calls-done h = rw (drop-end (callCount rules rule) (λ i. callIn rules (callPlace rule i)) c h) (last, λ e. CallsJoin.done (e .0) (e .1))
+    where
+      last : CallsJoin words k σ part [] lines used → (lines ≡ 0) × (used ≡ part)
+      last (CallsJoin.done e u) = (e, u)
 
 -- ---- points-to atoms
 
@@ -89,12 +80,10 @@ found-none (FoundRecord.found f) h i p = omega (arith, f .below)
 found-none (FoundRecord.none e n) h i p = n i (p .below) (p .is)
 
 first-same : (records : List ℕ) (wanted : Record) (i j : ℕ) → FirstRecord records wanted i → FirstRecord records wanted j → i ≡ j
-first-same records wanted i j p q = step (decLt i j) (decLt j i)
-  where
-    step : Dec (i < j) → Dec (j < i) → i ≡ j
-    step (yes h) d = absurd (q .first i h (p .is))
-    step (no n) (yes h) = absurd (p .first j h (q .is))
-    step (no n) (no m) = omega arith
+first-same records wanted i j p q = elim (decLt i j) [
+  | yes h ↦ absurd (q .first i h (p .is))
+  | no n ↦ elim (decLt j i) [ yes h ↦ absurd (p .first j h (q .is)) | no m ↦ omega arith ]
+]
 
 -- the join of a rule's atoms from number g on
 abbrev pub AtomsFrom : List ℕ → ℕ → List ℕ → List ℕ → (ℕ → Type 0) → ℕ → ℕ → Type 0
@@ -106,39 +95,29 @@ pub record FirstAtom (rules : List ℕ) (rule : ℕ) (records σ : List ℕ) (af
   pub apart : bitAnd (2 ^ i) used ≡ 0
   pub rest : AtomsFrom rules rule records σ after (g + 1) (2 ^ i + used)
 
-module _ (rules : List ℕ) (rule g : ℕ) where
-  atoms-next : g < atomCount rules rule → drop g (ruleIn rules rule .points-to) ≡ atomIn rules (atomPlace rule g) ∷ drop (g + 1) (ruleIn rules rule .points-to)
-  atoms-next h = drop-next (atomCount rules rule) (λ i. atomIn rules (atomPlace rule i)) g h
+module _ (rules : List ℕ) (rule g : ℕ) {records σ : List ℕ} {after : ℕ → Type 0} {used : ℕ} where
+  pub atoms-step : g < atomCount rules rule → AtomsFrom rules rule records σ after g used ↔ ((i : ℕ) × FirstAtom rules rule records σ after g i used)
+  atoms-step h = (λ j. first (rw next at j), λ f. rw next (AtomsJoin.next (f .0) (f .1 .takes) (f .1 .apart) (f .1 .rest)))
+    where
+      next : drop g (ruleIn rules rule .points-to) ≡ atomIn rules (atomPlace rule g) ∷ drop (g + 1) (ruleIn rules rule .points-to)
+      next = drop-next (atomCount rules rule) (λ i. atomIn rules (atomPlace rule i)) g h
 
-  atoms-none : atomCount rules rule ≤ g → drop g (ruleIn rules rule .points-to) ≡ []
-  atoms-none h = drop-end (atomCount rules rule) (λ i. atomIn rules (atomPlace rule i)) g h
+      first : AtomsJoin records σ after (atomIn rules (atomPlace rule g) ∷ drop (g + 1) (ruleIn rules rule .points-to)) used → (i : ℕ) × FirstAtom rules rule records σ after g i used
+      first (AtomsJoin.next i f z r) = (i, record { takes = f; apart = z; rest = r })
 
-  module _ {records σ : List ℕ} {after : ℕ → Type 0} {used : ℕ} where
-    pub atoms-some : g < atomCount rules rule → AtomsFrom rules rule records σ after g used → (i : ℕ) × FirstAtom rules rule records σ after g i used
-    atoms-some h j = step (rw (atoms-next h) at j)
-      where
-        step : AtomsJoin records σ after (atomIn rules (atomPlace rule g) ∷ drop (g + 1) (ruleIn rules rule .points-to)) used → (i : ℕ) × FirstAtom rules rule records σ after g i used
-        step (AtomsJoin.next i f z r) = (i, record { takes = f; apart = z; rest = r })
+  -- only one record is the first as asked for
+  pub atoms-first : {i : ℕ} → g < atomCount rules rule → FirstRecord records (asked σ (atomIn rules (atomPlace rule g))) i
+      → AtomsFrom rules rule records σ after g used → FirstAtom rules rule records σ after g i used
+  atoms-first {i} h f j =
+      let (k, p) = atoms-step h .0 j in
+      let e : k ≡ i = first-same records (asked σ (atomIn rules (atomPlace rule g))) k i (p .takes) f in
+      rw e at p
 
-    -- only one record is the first as asked for
-    pub atoms-first : {i : ℕ} → g < atomCount rules rule → FirstRecord records (asked σ (atomIn rules (atomPlace rule g))) i
-        → AtomsFrom rules rule records σ after g used → FirstAtom rules rule records σ after g i used
-    atoms-first {i} h f j =
-        let (k, p) = atoms-some h j in
-        let e : k ≡ i = first-same records (asked σ (atomIn rules (atomPlace rule g))) k i (p .takes) f in
-        rw e at p
-
-    pub atoms-more : {i : ℕ} → g < atomCount rules rule → FirstAtom rules rule records σ after g i used → AtomsFrom rules rule records σ after g used
-    atoms-more {i} h f = rw (atoms-next h) (AtomsJoin.next i (f .takes) (f .apart) (f .rest))
-
-    pub atoms-end : atomCount rules rule ≤ g → after used → AtomsFrom rules rule records σ after g used
-    atoms-end h p = rw (atoms-none h) (AtomsJoin.done p)
-
-    pub atoms-ended : atomCount rules rule ≤ g → AtomsFrom rules rule records σ after g used → after used
-    atoms-ended h j = step (rw (atoms-none h) at j)
-      where
-        step : AtomsJoin records σ after [] used → after used
-        step (AtomsJoin.done p) = p
+  pub atoms-done : atomCount rules rule ≤ g → AtomsFrom rules rule records σ after g used ↔ after used
+  atoms-done h = rw (drop-end (atomCount rules rule) (λ i. atomIn rules (atomPlace rule i)) g h) (last, AtomsJoin.done)
+    where
+      last : AtomsJoin records σ after [] used → after used
+      last (AtomsJoin.done p) = p
 
 -- ---- the head
 

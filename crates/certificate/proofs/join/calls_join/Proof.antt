@@ -2,6 +2,7 @@
 -- to what is used now.
 use borrow.Author.Needs.{needs}
 use mathlib.Core.Path.{_≡_, sym, ap, _∙_}
+use mathlib.Core.Logic.{_↔_}
 use Prim.Native.Nat.{_+_, _-_, _%_, _≤_, _<_}
 use native.Mathlib.Omega.{arith}
 use Rattle.semantics.specs.Certificate.{factAt}
@@ -11,15 +12,14 @@ use Rattle.words.proofs.Subheap.{told-false, told-apart, told-shared}
 use Rattle.certificate.specs.Line.{givenBy, CallsOf}
 use Rattle.certificate.proofs.Answers.{told-equal}
 use Rattle.certificate.proofs.Joining.{sum-small}
-use Rattle.certificate.proofs.Passing.{CallsFrom, calls-first, calls-more, calls-end, calls-ended}
+use Rattle.certificate.proofs.Passing.{CallsFrom, calls-step, calls-done}
 use Rattle.certificate.proofs.join.calls_join.Statement.{statement}
 use Rattle.certificate.proofs.join.calls_join.Tie as tie
 
 abbrev Inv-loop : tie.InvT-loop
 Inv-loop rules rule words k used word count lines₀ sum₀ c₀ lines sum c =
     (c ≤ count) × (sum < 65536)
-    × (CallsOf rules rule words k used → CallsFrom rules rule words k (givenBy word) (partOf (factAt words k)) c lines sum)
-    × (CallsFrom rules rule words k (givenBy word) (partOf (factAt words k)) c lines sum → CallsOf rules rule words k used)
+    × (CallsOf rules rule words k used ↔ CallsFrom rules rule words k (givenBy word) (partOf (factAt words k)) c lines sum)
 
 abbrev μ-loop : tie.MeasureT-loop
 μ-loop rules rule words k used word count lines₀ sum₀ c₀ lines sum c = count - c
@@ -37,7 +37,7 @@ start l = counted l .before .before .before
 loop-holds : tie.Need-loop-holds Inv-loop μ-loop
 loop-holds c =
     let e = c .before .before .positions-at .ensures in
-    (omega arith, omega arith, rw (c .rule-at .ensures, e) (λ p. p), rw (c .rule-at .ensures, e) (λ p. p))
+    (omega arith, omega arith, rw (c .rule-at .ensures, e) (λ p. p, λ p. p))
 
 returns : tie.Need-returns Inv-loop μ-loop
 returns c =
@@ -46,7 +46,7 @@ returns c =
     told-false
     (λ p.
     c .before .calls-line .ensures .not-so (c .if1 .left)
-    (calls-first (g .rules .now) (g .rule) (l .loop .c) (omega (arith, counted l .call-count .ensures)) (l .loop .inv .2 p) .line))
+    (calls-step (g .rules .now) (g .rule) (l .loop .c) (omega (arith, counted l .call-count .ensures)) .0 (l .loop .inv .2 .0 p) .line))
 
 fact-at-requires : tie.Need-fact-at-requires Inv-loop μ-loop
 fact-at-requires c κs =
@@ -69,7 +69,7 @@ returns-2 c =
     told-false
     (λ p.
     told-shared (c .before .shares .ensures) (c .if2 .taken)
-    (rw (part-is (c .before)) (calls-first (g .rules .now) (g .rule) (l .loop .c) (omega (arith, counted l .call-count .ensures)) (l .loop .inv .2 p) .apart)))
+    (rw (part-is (c .before)) (calls-step (g .rules .now) (g .rule) (l .loop .c) (omega (arith, counted l .call-count .ensures)) .0 (l .loop .inv .2 .0 p) .apart)))
 
 -- joined to what is used, it stays small
 small : (c : tie.Else2 Inv-loop μ-loop) → c .before .before .part-of .result + at (c .before) .loop .sum < 65536
@@ -87,27 +87,27 @@ loop-again c =
     let e : Part (c .before) = part-is (c .before) in (
       omega arith,
       small c,
-      λ p. rw e (calls-first (g .rules .now) (g .rule) (l .loop .c) h (l .loop .inv .2 p) .rest),
-      λ p. l .loop .inv .3
-          (calls-more (g .rules .now) (g .rule) (l .loop .c) h
-          (record { line = called .before .calls-line .ensures .so (called .if1 .taken); apart = rw e at (told-apart (c .before .shares .ensures) (c .if2 .left)); rest = rw e at p })),
+      (
+        λ p. rw e (calls-step (g .rules .now) (g .rule) (l .loop .c) h .0 (l .loop .inv .2 .0 p) .rest),
+        λ p. l .loop .inv .2 .1 (calls-step (g .rules .now) (g .rule) (l .loop .c) h .1 (record { line = called .before .calls-line .ensures .so (called .if1 .taken); apart = rw e at (told-apart (c .before .shares .ensures) (c .if2 .left)); rest = rw e at p })),
+      ),
     )
 
 returns-3 : tie.Need-returns-3 Inv-loop μ-loop
 returns-3 c =
     let l = c .before .before in
     let g = start l .args in
-    told-false (λ p. c .if3 .taken (calls-ended (g .rules .now) (g .rule) (l .loop .c) (omega (arith, counted l .call-count .ensures)) (l .loop .inv .2 p) .0))
+    told-false (λ p. c .if3 .taken (calls-done (g .rules .now) (g .rule) (l .loop .c) (omega (arith, counted l .call-count .ensures)) .0 (l .loop .inv .2 .0 p) .0))
 
 returns-4 : tie.Need-returns-4 Inv-loop μ-loop
 returns-4 c =
     let l = c .before .before .before .before in
     let g = start l .args in
-    let h : callCount (g .rules .now) (g .rule) ≤ l .loop .c = omega (arith, counted l .call-count .ensures) in
+    let done = calls-done (g .rules .now) (g .rule) (l .loop .c) (omega (arith, counted l .call-count .ensures)) in
     let e : c .part-of2 .result ≡ partOf (factAt (g .words .now) (g .k)) = c .part-of2 .ensures ∙ ap partOf (c .before .fact-at2 .ensures) in
     told-equal (l .loop .sum) (c .part-of2 .result)
-    (λ q. l .loop .inv .3 (calls-end (g .rules .now) (g .rule) (l .loop .c) h (c .before .before .if3 .left) (q ∙ e)))
-    (λ p. calls-ended (g .rules .now) (g .rule) (l .loop .c) h (l .loop .inv .2 p) .1 ∙ sym e)
+    (λ q. l .loop .inv .2 .1 (done .1 (c .before .before .if3 .left, q ∙ e)))
+    (λ p. done .0 (l .loop .inv .2 .0 p) .1 ∙ sym e)
 
 pub calls-join-spec : {M : Type 1} → statement M
 calls-join-spec =

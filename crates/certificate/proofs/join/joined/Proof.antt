@@ -1,6 +1,7 @@
 -- `joined` passes the points-to atoms one by one. The invariant: all atoms and calls join exactly if those that are left join to the
 -- records used now. Only the first record as asked for counts, so what the search finds is the one.
 use borrow.Author.Needs.{needs}
+use mathlib.Core.Logic.{_↔_}
 use Prim.Native.Nat.{_+_, _-_, _≤_, _<_}
 use native.Mathlib.Omega.{arith}
 use Rattle.semantics.specs.Tree.{asked}
@@ -9,15 +10,14 @@ use Rattle.words.proofs.Subheap.{told-false, told-apart, told-shared}
 use Rattle.certificate.specs.Line.{givenBy, FirstRecord, CallsOf, JoinOf}
 use Rattle.certificate.proofs.Answers.{told-as}
 use Rattle.certificate.proofs.Joining.{sum-small}
-use Rattle.certificate.proofs.Passing.{found-first, found-none, AtomsFrom, atoms-some, atoms-first, atoms-more, atoms-end, atoms-ended}
+use Rattle.certificate.proofs.Passing.{found-first, found-none, AtomsFrom, atoms-step, atoms-first, atoms-done}
 use Rattle.certificate.proofs.join.joined.Statement.{statement}
 use Rattle.certificate.proofs.join.joined.Tie as tie
 
 abbrev Inv-loop : tie.InvT-loop
 Inv-loop rules rule records words k word count used₀ g₀ used g =
     (g ≤ count) × (used < 65536)
-    × (JoinOf rules rule records words k → AtomsFrom rules rule records (givenBy word) (CallsOf rules rule words k) g used)
-    × (AtomsFrom rules rule records (givenBy word) (CallsOf rules rule words k) g used → JoinOf rules rule records words k)
+    × (JoinOf rules rule records words k ↔ AtomsFrom rules rule records (givenBy word) (CallsOf rules rule words k) g used)
 
 abbrev μ-loop : tie.MeasureT-loop
 μ-loop rules rule records words k word count used₀ g₀ used g = count - g
@@ -30,7 +30,7 @@ abbrev start : tie.At-loop Inv-loop μ-loop → tie.Start Inv-loop μ-loop
 start l = l .before .before .before .before
 
 loop-holds : tie.Need-loop-holds Inv-loop μ-loop
-loop-holds c = let e = c .before .positions-at .ensures in (omega arith, omega arith, rw e (λ p. p), rw e (λ p. p))
+loop-holds c = let e = c .before .positions-at .ensures in (omega arith, omega arith, rw e (λ p. p, λ p. p))
 
 returns : tie.Need-returns Inv-loop μ-loop
 returns c =
@@ -38,7 +38,7 @@ returns c =
     let s = start l .args in
     told-false
     (λ p.
-    let (i, f) = atoms-some (s .rules .now) (s .rule) (l .loop .g) (omega (arith, l .before .atom-count .ensures)) (l .loop .inv .2 p) in
+    let (i, f) = atoms-step (s .rules .now) (s .rule) (l .loop .g) (omega (arith, l .before .atom-count .ensures)) .0 (l .loop .inv .2 .0 p) in
     found-none (c .before .before .find-record .ensures) (omega (arith, c .before .record-count .ensures, c .if1 .taken)) i (f .takes))
 
 -- the record that the next atom takes
@@ -59,7 +59,7 @@ returns-2 c =
     told-false
     (λ p.
     told-shared (c .before .shares .ensures) (c .if2 .taken)
-    (rw (c .before .before .bit .ensures) (atoms-first (s .rules .now) (s .rule) (l .loop .g) (omega (arith, l .before .atom-count .ensures)) (taken free) (l .loop .inv .2 p) .apart)))
+    (rw (c .before .before .bit .ensures) (atoms-first (s .rules .now) (s .rule) (l .loop .g) (omega (arith, l .before .atom-count .ensures)) (taken free) (l .loop .inv .2 .0 p) .apart)))
 
 -- joined to the records used, it stays small
 small : (c : tie.Else2 Inv-loop μ-loop) → c .before .before .bit .result + at (c .before .before .before) .loop .used < 65536
@@ -76,19 +76,18 @@ loop-again c =
     let e = c .before .before .bit .ensures in (
       omega arith,
       small c,
-      λ p. rw e (atoms-first (s .rules .now) (s .rule) (l .loop .g) h (taken free) (l .loop .inv .2 p) .rest),
-      λ p. l .loop .inv .3
-          (atoms-more (s .rules .now) (s .rule) (l .loop .g) h
-          (record { takes = taken free; apart = rw e at (told-apart (c .before .shares .ensures) (c .if2 .left)); rest = rw e at p })),
+      (
+        λ p. rw e (atoms-first (s .rules .now) (s .rule) (l .loop .g) h (taken free) (l .loop .inv .2 .0 p) .rest),
+        λ p. l .loop .inv .2 .1 (atoms-step (s .rules .now) (s .rule) (l .loop .g) h .1 (_, record { takes = taken free; apart = rw e at (told-apart (c .before .shares .ensures) (c .if2 .left)); rest = rw e at p })),
+      ),
     )
 
 returns-3 : tie.Need-returns-3 Inv-loop μ-loop
 returns-3 c =
     let l = c .before .before in
     let s = start l .args in
-    let h : atomCount (s .rules .now) (s .rule) ≤ l .loop .g = omega (arith, l .before .atom-count .ensures) in
-    told-as (λ p. l .loop .inv .3 (atoms-end (s .rules .now) (s .rule) (l .loop .g) h p))
-    (λ p. atoms-ended (s .rules .now) (s .rule) (l .loop .g) h (l .loop .inv .2 p)) (c .calls-join .ensures)
+    let done = atoms-done (s .rules .now) (s .rule) (l .loop .g) (omega (arith, l .before .atom-count .ensures)) in
+    told-as (λ p. l .loop .inv .2 .1 (done .1 p)) (λ p. done .0 (l .loop .inv .2 .0 p)) (c .calls-join .ensures)
 
 pub joined-spec : {M : Type 1} → statement M
 joined-spec =
