@@ -1,7 +1,7 @@
 -- Positions in a line's second word: digit by digit, as the check passes them, and all at once, as the definition has them.
 use mathlib.Core.Path.{_≡_, refl, sym, _∙_}
 use mathlib.Core.List.{List, [], _∷_, List·Memᴰ·head, List·Memᴰ·tail, List·Memᴰ·cases-cons, List·Memᴰ·not-nil}
-use mathlib.Core.Logic.{⊎-elim}
+use mathlib.Core.Logic.{⊎-elim, _↔_}
 use Prim.Native.Nat.{ℕ, zero, suc, _+_, _-_, _*_, _/_, _%_, _≤_, _<_}
 use native.Mathlib.Omega.{arith}
 use lib.ListN.{length, getD}
@@ -9,32 +9,17 @@ use Rattle.semantics.specs.Lists.{_among_, digits, digitsOf}
 use Rattle.words.proofs.Digits.{digit-at}
 use Rattle.certificate.specs.Line.{Positions}
 
--- ---- one position on
+-- ---- one position on, and the end
 
-pub positions-first : (n left word : ℕ) → 0 < left → Positions n left word → word % 256 < n
+pub positions-step : (n left word : ℕ) → 0 < left → Positions n left word ↔ ((word % 256 < n) × Positions n (left - 1) (word / 256))
 unfolding Positions
-positions-first n zero word h p = absurd (omega arith)
-positions-first n (suc left) word h p = p .0
+positions-step n zero word h = absurd (omega arith)
+positions-step n (suc left) word h = let e : suc left - 1 ≡ left = omega arith in rw e (λ p. p, λ p. p)
 
-pub positions-rest : (n left word : ℕ) → 0 < left → Positions n left word → Positions n (left - 1) (word / 256)
+pub positions-done : (n left word : ℕ) → left ≤ 0 → Positions n left word ↔ (word ≡ 0)
 unfolding Positions
-positions-rest n zero word h p = absurd (omega arith)
-positions-rest n (suc left) word h p = let e : suc left - 1 ≡ left = omega arith in rw e (p .1)
-
-pub positions-more : (n left word : ℕ) → 0 < left → word % 256 < n → Positions n (left - 1) (word / 256) → Positions n left word
-unfolding Positions
-positions-more n zero word h f p = absurd (omega arith)
-positions-more n (suc left) word h f p = let e : suc left - 1 ≡ left = omega arith in (f, rw e at p)
-
-pub positions-end : (n left word : ℕ) → left ≤ 0 → word ≡ 0 → Positions n left word
-unfolding Positions
-positions-end n zero word h e = e
-positions-end n (suc left) word h e = absurd (omega arith)
-
-pub positions-none : (n left word : ℕ) → left ≤ 0 → Positions n left word → word ≡ 0
-unfolding Positions
-positions-none n zero word h p = p
-positions-none n (suc left) word h p = absurd (omega arith)
+positions-done n zero word h = (λ p. p, λ p. p)
+positions-done n (suc left) word h = absurd (omega arith)
 
 -- ---- all positions
 

@@ -3,7 +3,7 @@
 use mathlib.Core.Bool.{Bool, not}
 use mathlib.Core.Path.{_≡_, refl, sym, ap, ap₂, _∙_}
 use mathlib.Core.List.{List, [], _∷_, map}
-use mathlib.Core.Logic.{_≢_}
+use mathlib.Core.Logic.{_≢_, _↔_}
 use Prim.Native.Nat.{ℕ, _+_, _-_, _≤_, _<_}
 use native.Mathlib.Omega.{arith}
 use lib.ListN.{length, getD, take, length-take, List·getD-eq-default}
@@ -36,37 +36,29 @@ term-fixed word b h = rw (le-ltb b 128 h, valueOf) refl
 
 -- ---- terms in a row
 
--- the positions of n terms, place by place
-pub terms-are : (rules : List ℕ) (word at n : ℕ) → valuesOf (givenBy word) (map termIn (entries rules at n)) ≡ tabulate n (λ (j : ℕ). valueOf (givenBy word) (termIn (getD rules (at + j) 0)))
-terms-are rules word at n =
-    ap (valuesOf (givenBy word)) (tabulate-map termIn n (λ j. getD rules (at + j) 0))
-    ∙ tabulate-map (valueOf (givenBy word)) n (λ j. termIn (getD rules (at + j) 0))
+module _ (rules : List ℕ) (word at n : ℕ) where
+  -- the position of term j, and those of all n
+  abbrev pub termAt : ℕ → ℕ
+  termAt j = valueOf (givenBy word) (termIn (getD rules (at + j) 0))
 
-pub fields-so : (rules records : List ℕ) (word at place n : ℕ)
-    → ((j : ℕ) → j < n → getD records (place + j) 0 ≡ valueOf (givenBy word) (termIn (getD rules (at + j) 0)))
-    → entries records place n ≡ valuesOf (givenBy word) (map termIn (entries rules at n))
-fields-so rules records word at place n h =
-    tabulate-same n (λ j. getD records (place + j) 0) (λ j. valueOf (givenBy word) (termIn (getD rules (at + j) 0))) h ∙ sym (terms-are rules word at n)
+  abbrev pub termsAt : List ℕ
+  termsAt = valuesOf (givenBy word) (map termIn (entries rules at n))
 
-pub fields-at : (rules records : List ℕ) (word at place n : ℕ)
-    → entries records place n ≡ valuesOf (givenBy word) (map termIn (entries rules at n))
-    → (j : ℕ) → j < n → getD records (place + j) 0 ≡ valueOf (givenBy word) (termIn (getD rules (at + j) 0))
-fields-at rules records word at place n e j h =
-    sym (tabulate-at n (λ i. getD records (place + i) 0) 0 j h)
-    ∙ ap (λ (l : List ℕ). getD l j 0) (e ∙ terms-are rules word at n)
-    ∙ tabulate-at n (λ i. valueOf (givenBy word) (termIn (getD rules (at + i) 0))) 0 j h
+  pub terms-are : termsAt ≡ tabulate n termAt
+  terms-are = ap (valuesOf (givenBy word)) (tabulate-map termIn n (λ j. getD rules (at + j) 0)) ∙ tabulate-map (valueOf (givenBy word)) n (λ j. termIn (getD rules (at + j) 0))
 
--- the position of argument j of a call, and 0 past the last
-pub argument-at : (rules : List ℕ) (word at n j : ℕ) → j < n
-    → valueOf (givenBy word) (termIn (getD rules (at + j) 0)) ≡ getD (valuesOf (givenBy word) (map termIn (entries rules at n))) j 0
-argument-at rules word at n j h =
-    sym (ap (λ (l : List ℕ). getD l j 0) (terms-are rules word at n) ∙ tabulate-at n (λ i. valueOf (givenBy word) (termIn (getD rules (at + i) 0))) 0 j h)
+  pub fields-are : (records : List ℕ) (place : ℕ) → (entries records place n ≡ termsAt) ↔ ((j : ℕ) → j < n → getD records (place + j) 0 ≡ termAt j)
+  fields-are records place = (
+    (λ e j h. sym (tabulate-at n (λ i. getD records (place + i) 0) 0 j h) ∙ ap (λ (l : List ℕ). getD l j 0) (e ∙ terms-are) ∙ tabulate-at n termAt 0 j h),
+    λ h. tabulate-same n (λ j. getD records (place + j) 0) termAt h ∙ sym terms-are,
+  )
 
-pub argument-past : (rules : List ℕ) (word at n j : ℕ) → n ≤ j → 0 ≡ getD (valuesOf (givenBy word) (map termIn (entries rules at n))) j 0
-argument-past rules word at n j h =
-    let l : length (valuesOf (givenBy word) (map termIn (entries rules at n))) ≡ n =
-    ap length (terms-are rules word at n) ∙ tabulate-length n (λ i. valueOf (givenBy word) (termIn (getD rules (at + i) 0))) in
-    sym (List·getD-eq-default (valuesOf (givenBy word) (map termIn (entries rules at n))) 0 (omega arith))
+  -- the position of argument j of a call, and 0 past the last
+  pub argument-at : (j : ℕ) → j < n → termAt j ≡ getD termsAt j 0
+  argument-at j h = sym (ap (λ (l : List ℕ). getD l j 0) terms-are ∙ tabulate-at n termAt 0 j h)
+
+  pub argument-past : (j : ℕ) → n ≤ j → 0 ≡ getD termsAt j 0
+  argument-past j h = sym (List·getD-eq-default termsAt 0 (omega (arith, ap length terms-are, tabulate-length n termAt)))
 
 -- the same of the head, whose arguments are its first variables
 pub head-at : (word arity j : ℕ) → j < arity → getD (givenBy word) j 0 ≡ getD (take arity (givenBy word)) j 0
@@ -92,8 +84,7 @@ module _ (rules : List ℕ) (rule g word : ℕ) (records : List ℕ) (i : ℕ) w
       ∙ tabulate-length (atomSize rules rule g) (λ j. valueOf (givenBy word) (termIn (atomField rules rule g j)))
 
   pub record-told : {r : Bool} → recordAddress records i ≡ getD (givenBy word) (atomAddress rules rule g) 0 → recordSize records i ≡ atomSize rules rule g
-      → Told r (entries records (recordPlace i + 2) (atomSize rules rule g) ≡ valuesOf (givenBy word) (map termIn (entries rules (atomPlace rule g + 2) (atomSize rules rule g))))
-      → Told r AsAsked
+      → Told r (entries records (recordPlace i + 2) (atomSize rules rule g) ≡ termsAt rules word (atomPlace rule g + 2) (atomSize rules rule g)) → Told r AsAsked
   record-told a c t =
       told-as
       (λ f. ap₂ (λ (x : ℕ) (xs : List ℕ). record { address = x; fields = xs }) a (ap (entries records (recordPlace i + 2)) c ∙ f))

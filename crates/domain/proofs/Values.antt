@@ -1,4 +1,4 @@
--- The values that the heap's block holds, by their places.
+-- The values that the heap's block holds, by their places, and how many the blocks hold.
 use mathlib.Core.Path.{_≡_, refl, _∙_}
 use mathlib.Core.List.{List, _∷_, Memᴰ·append-right}
 use Prim.Native.Nat.{ℕ, suc, _+_, _-_, _≤_, _<_}
@@ -7,10 +7,12 @@ use lib.ListN.{length, getD, take, drop, length-drop, drop-of-length-le, take-ap
 use lib.Seq.{drop-cons}
 use Rattle.semantics.specs.Lists.{_among_}
 use Rattle.semantics.specs.Heap.{Record, blank, recordValues, heapValues, WellFormedHeap}
+use Rattle.semantics.specs.RuleSet.{WellFormed}
 use Rattle.semantics.specs.Domain.{mostValues}
 use Rattle.semantics.proofs.DomainFacts.{heap-length, heap-values}
 use Rattle.words.specs.Entries.{entries}
-use Rattle.block.specs.Layout.{recordCount, recordPlace, recordSize, recordField, recordIn, heapIn}
+use Rattle.block.specs.Layout.{ruleCount, ruleSetIn, recordCount, recordPlace, recordSize, recordField, recordIn, heapIn}
+use Rattle.block.proofs.RuleInBlock.{rules-are}
 use Rattle.words.proofs.Tabulate.{entries-length, tabulate-length, tabulate-at, tabulate-in}
 use Rattle.domain.specs.Insertion.{Room, Inserted}
 use Rattle.domain.proofs.Insertion.{inserted-none, inserted-also, inserted-room}
@@ -33,6 +35,9 @@ field-at heap k j h = tabulate-at (recordSize heap k) (recordField heap k) 0 j h
 pub heap-count : (heap : List ℕ) → length (heapIn heap) ≡ recordCount heap
 unfolding heapIn
 heap-count heap = tabulate-length (recordCount heap) (recordOf heap)
+
+pub rules-few : (block : List ℕ) → WellFormed (ruleSetIn block) → ruleCount block ≤ 16
+rules-few block formed = omega (arith, formed .rules-few, rules-are block)
 
 module _ (heap : List ℕ) (formed : WellFormedHeap (heapIn heap)) where
   pub records-few : recordCount heap ≤ 16

@@ -1,5 +1,4 @@
 pub mod Positions
 pub mod PlacingHeap
-pub mod PlacingQuery
 pub mod PlacingRules
 pub mod Bridge

@@ -22,12 +22,6 @@ abbrev μ-loop : tie.MeasureT-loop
 abbrev start : tie.At-loop Inv-loop μ-loop → tie.Start Inv-loop μ-loop
 start l = l .before .before .before .before .before .before .before
 
-returns : tie.Need-returns Inv-loop μ-loop
-returns c = checked (c .before .before .pre) (told-false (λ p. omega (arith, p .some, c .if1 .taken)))
-
-returns-2 : tie.Need-returns-2 Inv-loop μ-loop
-returns-2 c = checked (c .before .before .before .pre) (told-false (λ p. omega (arith, p .most, c .if2 .taken)))
-
 returns-3 : tie.Need-returns-3 Inv-loop μ-loop
 returns-3 c =
     let some : tie.Else1 Inv-loop μ-loop = c .before .before in
@@ -70,6 +64,7 @@ returns-6 c =
 pub check-spec : {M : Type 1} → statement M
 check-spec =
     tie.close
-    (tie.spec Inv-loop μ-loop returns returns-2 returns-3 (λ c κs. search needs) returns-4
-    (λ c. (omega arith, omega arith, λ j h l. absurd (omega arith))) line-holds-requires (λ c. search needs) (λ c. search needs) loop-again
-    returns-5 returns-6)
+    (tie.spec Inv-loop μ-loop (λ c. checked (c .before .before .pre) (told-false (λ p. omega (arith, p .some, c .if1 .taken))))
+    (λ c. checked (c .before .before .before .pre) (told-false (λ p. omega (arith, p .most, c .if2 .taken)))) returns-3
+    (λ c κs. search needs) returns-4 (λ c. (omega arith, omega arith, λ j h l. absurd (omega arith))) line-holds-requires
+    (λ c. search needs) (λ c. search needs) loop-again returns-5 returns-6)

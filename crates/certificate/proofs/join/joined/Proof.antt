@@ -29,9 +29,6 @@ at c = c .before .before .before .before
 abbrev start : tie.At-loop Inv-loop μ-loop → tie.Start Inv-loop μ-loop
 start l = l .before .before .before .before
 
-loop-holds : tie.Need-loop-holds Inv-loop μ-loop
-loop-holds c = let e = c .before .positions-at .ensures in (omega arith, omega arith, rw e (λ p. p, λ p. p))
-
 returns : tie.Need-returns Inv-loop μ-loop
 returns c =
     let l = c .before .before .before .before in
@@ -92,6 +89,7 @@ returns-3 c =
 pub joined-spec : {M : Type 1} → statement M
 joined-spec =
     tie.close
-    (tie.spec Inv-loop μ-loop (λ c κs. search needs) (λ c κs. search needs) loop-holds (λ c κs. search needs) (λ c κs. search needs) returns
-    (λ c κs. search needs) (λ c κs. search needs) returns-2 (λ c. record { fits = small c }) (λ c. search needs) (λ c. search needs)
-    loop-again (λ c κs. search needs) returns-3)
+    (tie.spec Inv-loop μ-loop (λ c κs. search needs) (λ c κs. search needs)
+    (λ c. let e = c .before .positions-at .ensures in (omega arith, omega arith, rw e (λ p. p, λ p. p))) (λ c κs. search needs)
+    (λ c κs. search needs) returns (λ c κs. search needs) (λ c κs. search needs) returns-2 (λ c. record { fits = small c })
+    (λ c. search needs) (λ c. search needs) loop-again (λ c κs. search needs) returns-3)

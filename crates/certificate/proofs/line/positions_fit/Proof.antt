@@ -1,16 +1,16 @@
 -- `positions_fit` passes the positions of a word one by one. The invariant: the whole word fits exactly if what is left of it does.
 use borrow.Author.Needs.{needs}
+use mathlib.Core.Logic.{_↔_}
 use native.Mathlib.Omega.{arith}
 use Rattle.words.proofs.Subheap.{told-false}
 use Rattle.certificate.specs.Line.{Positions}
 use Rattle.certificate.proofs.Answers.{told-equal}
-use Rattle.certificate.proofs.Positions.{positions-first, positions-rest, positions-more, positions-end, positions-none}
+use Rattle.certificate.proofs.Positions.{positions-step, positions-done}
 use Rattle.certificate.proofs.line.positions_fit.Statement.{statement}
 use Rattle.certificate.proofs.line.positions_fit.Tie as tie
 
 abbrev Inv-loop : tie.InvT-loop
-Inv-loop word variables n rest₀ left₀ rest left =
-    (Positions n variables word → Positions n left rest) × (Positions n left rest → Positions n variables word)
+Inv-loop word variables n rest₀ left₀ rest left = Positions n variables word ↔ Positions n left rest
 
 abbrev μ-loop : tie.MeasureT-loop
 μ-loop word variables n rest₀ left₀ rest left = left
@@ -18,21 +18,19 @@ abbrev μ-loop : tie.MeasureT-loop
 returns : tie.Need-returns Inv-loop μ-loop
 returns c =
     let l = c .before .before .loop in
-    told-false (λ p. omega (arith, positions-first (c .before .before .before .args .n) (l .left) (l .rest) (c .before .loop-test .taken) (l .inv .0 p)))
+    told-false (λ p. omega (arith, positions-step (c .before .before .before .args .n) (l .left) (l .rest) (c .before .loop-test .taken) .0 (l .inv .0 p) .0))
 
 loop-again : tie.Need-loop-again Inv-loop μ-loop
 loop-again c =
     let l = c .before .before .loop in
-    let n = c .before .before .before .args .n in (
-      λ p. positions-rest n (l .left) (l .rest) (c .before .loop-test .taken) (l .inv .0 p),
-      λ p. l .inv .1 (positions-more n (l .left) (l .rest) (c .before .loop-test .taken) (omega arith) p),
-    )
+    let step = positions-step (c .before .before .before .args .n) (l .left) (l .rest) (c .before .loop-test .taken) in
+    (λ p. step .0 (l .inv .0 p) .1, λ p. l .inv .1 (step .1 (omega arith, p)))
 
 returns-2 : tie.Need-returns-2 Inv-loop μ-loop
 returns-2 c =
     let l = c .before .loop in
-    let n = c .before .before .args .n in
-    told-equal (l .rest) 0 (λ e. l .inv .1 (positions-end n (l .left) (l .rest) (omega arith) e)) (λ p. positions-none n (l .left) (l .rest) (omega arith) (l .inv .0 p))
+    let done = positions-done (c .before .before .args .n) (l .left) (l .rest) (omega arith) in
+    told-equal (l .rest) 0 (λ e. l .inv .1 (done .1 e)) (λ p. done .0 (l .inv .0 p))
 
 pub positions-fit-spec : {M : Type 1} → statement M
 positions-fit-spec =

@@ -9,7 +9,7 @@ use Rattle.semantics.specs.Tree.{valueOf}
 use Rattle.block.specs.Layout.{termIn}
 use Rattle.words.proofs.Subheap.{told-true, told-false}
 use Rattle.certificate.specs.Line.{givenBy}
-use Rattle.certificate.proofs.Reading.{fields-so, fields-at}
+use Rattle.certificate.proofs.Reading.{fields-are}
 use Rattle.certificate.proofs.rule.fields_match.Statement.{statement}
 use Rattle.certificate.proofs.rule.fields_match.Tie as tie
 
@@ -23,9 +23,6 @@ abbrev μ-loop : tie.MeasureT-loop
 abbrev at : tie.After-position Inv-loop μ-loop → tie.At-loop Inv-loop μ-loop
 at c = c .before .before .before .before
 
-loop-again : tie.Need-loop-again Inv-loop μ-loop
-loop-again c = (omega arith, below-more _ _ (at (c .before) .loop .inv .1) (c .if1 .taken ∙ c .before .position .ensures))
-
 returns : tie.Need-returns Inv-loop μ-loop
 returns c =
     let l = at (c .before) in
@@ -33,16 +30,17 @@ returns c =
     told-false
     (λ p.
     c .if1 .left
-    (fields-at (g .rules .now) (g .records .now) (g .word) (g .terms) (g .fields) (g .count) p (l .loop .j) (omega arith)
+    (fields-are (g .rules .now) (g .word) (g .terms) (g .count) (g .records .now) (g .fields) .0 p (l .loop .j) (omega arith)
     ∙ sym (c .before .position .ensures)))
 
 returns-2 : tie.Need-returns-2 Inv-loop μ-loop
 returns-2 c =
     let g = c .before .before .args in
-    told-true (fields-so (g .rules .now) (g .records .now) (g .word) (g .terms) (g .fields) (g .count) (λ j h. c .before .loop .inv .1 j (omega arith)))
+    told-true (fields-are (g .rules .now) (g .word) (g .terms) (g .count) (g .records .now) (g .fields) .1 (λ j h. c .before .loop .inv .1 j (omega arith)))
 
 pub fields-match-spec : {M : Type 1} → statement M
 fields-match-spec =
     tie.close
     (tie.spec Inv-loop μ-loop (λ c. (omega arith, below-none _)) (λ c. search needs) (λ c. search needs) (λ c. search needs)
-    (λ c. search needs) (λ c κs. search needs) (λ c. search needs) (λ c. search needs) loop-again returns returns-2)
+    (λ c. search needs) (λ c κs. search needs) (λ c. search needs) (λ c. search needs)
+    (λ c. (omega arith, below-more _ _ (at (c .before) .loop .inv .1) (c .if1 .taken ∙ c .before .position .ensures))) returns returns-2)
