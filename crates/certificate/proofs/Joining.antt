@@ -21,12 +21,10 @@ record Rest (parts : List ℕ) (used whole : ℕ) : Type 0 where
 
 onto-rest : {parts : List ℕ} {used whole : ℕ} → Onto parts used whole → Rest parts used whole
 onto-rest {used = used} (Onto.none e) = record { rest = 0; joins = Joins.none; apart = and-zero-r used; sum = omega arith }
-onto-rest {used = used} {whole = whole} (Onto.next {part = part} {parts = parts} h o) = step (onto-rest o)
-  where
-    step : Rest parts (part + used) whole → Rest (part ∷ parts) used whole
-    step r =
-        let (a, b) = apart-join part used (r .rest) h (r .apart) in
-        record { rest = part + r .rest; joins = Joins.next a (r .joins) refl; apart = b; sum = omega (arith, r .sum) }
+onto-rest {used = used} (Onto.next {part = part} h o) =
+    let r = onto-rest o in
+    let (a, b) = apart-join part used (r .rest) h (r .apart) in
+    record { rest = part + r .rest; joins = Joins.next a (r .joins) refl; apart = b; sum = omega (arith, r .sum) }
 
 pub onto-joins : (parts : List ℕ) (whole : ℕ) → Onto parts 0 whole → Joins parts whole
 onto-joins parts whole o = let r = onto-rest o in let e : r .rest ≡ whole = omega (arith, r .sum) in rw e at (r .joins)

@@ -1,12 +1,11 @@
 -- Positions in a line's second word: digit by digit, as the check passes them, and all at once, as the definition has them.
-use mathlib.Core.Path.{_≡_, refl, sym, _∙_}
+use mathlib.Core.Path.{_≡_, refl}
 use mathlib.Core.List.{List, [], _∷_, List·Memᴰ·head, List·Memᴰ·tail, List·Memᴰ·cases-cons, List·Memᴰ·not-nil}
 use mathlib.Core.Logic.{⊎-elim, _↔_}
 use Prim.Native.Nat.{ℕ, zero, suc, _+_, _-_, _*_, _/_, _%_, _≤_, _<_}
 use native.Mathlib.Omega.{arith}
-use lib.ListN.{length, getD}
+use lib.ListN.{length}
 use Rattle.semantics.specs.Lists.{_among_, digits, digitsOf}
-use Rattle.words.proofs.Digits.{digit-at}
 use Rattle.certificate.specs.Line.{Positions}
 
 -- ---- one position on, and the end
@@ -43,7 +42,3 @@ positions-pass n (p ∷ ps) few h =
     let l : p < n = h p (List·Memᴰ·head refl) in
     let d : (p + 256 * digits 256 ps) / 256 ≡ digits 256 ps = omega arith in
     (omega arith, rw d (positions-pass n ps few (λ q m. h q (List·Memᴰ·tail m))))
-
--- the same digit of two readings
-pub same-digit : (m n word i : ℕ) → i < m → i < n → getD (digitsOf 256 m word) i 0 ≡ getD (digitsOf 256 n word) i 0
-same-digit m n word i h l = digit-at 8 m word i h ∙ sym (digit-at 8 n word i l)
