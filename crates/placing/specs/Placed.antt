@@ -55,7 +55,8 @@ pub record BytePlaced (array : List ℕ) (n before after : ℕ) : Type 0 where
 pub record BytesPlaced (array : List ℕ) (n : ℕ) (before after : List ℕ) (start end : ℕ) : Type 0 where
   pub long : length after ≡ 1168
   pub placed : (k : ℕ) → start ≤ k → k < end → BytePlaced array n (getD before k 0) (getD after k 0)
-  pub others : (k : ℕ) → (k < start) ⊎ (end ≤ k) → getD after k 0 ≡ getD before k 0
+  pub front : (k : ℕ) → k < start → getD after k 0 ≡ getD before k 0
+  pub rest : (k : ℕ) → end ≤ k → getD after k 0 ≡ getD before k 0
 
 -- The rules in positions.
 pub record RulesPlaced (domain before after : List ℕ) : Type 0 where

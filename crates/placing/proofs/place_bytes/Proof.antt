@@ -17,7 +17,7 @@ abbrev μ-loop : tie.MeasureT-loop
 
 loop-holds : tie.Need-loop-holds Inv-loop μ-loop
 loop-holds c =
-    (omega arith, omega arith, bytes-low (c .args .domain .now) (c .args .n) (c .args .rules .now) (c .args .start) (c .args .start) (c .pre .1) (λ k a b. absurd (omega arith)))
+    (omega arith, omega arith, bytes-low (c .args .start) (c .args .start) (c .pre .1) (λ k a b. absurd (omega arith)))
 
 find-requires : tie.Need-find-requires Inv-loop μ-loop
 find-requires c κs = c .before .before .before .before .before .pre .0
@@ -26,13 +26,12 @@ loop-again : tie.Need-loop-again Inv-loop μ-loop
 loop-again c =
     let s = c .before .before .before .before .before in
     let l = c .before .before .before .before .loop in
-    let e = c .before .wide .ensures .0 in
-    let join = bytes-join (s .args .domain .now) (s .args .n) (s .args .rules .now) (s .args .start) (l .rules) (c .if1 .rules) (l .i) (l .i + 1) (l .inv .0) (omega arith) (l .inv .2) in (
+    let e = c .before .wide .ensures .0 in (
       omega arith,
       omega arith,
-      join (⊎-elim
-          (λ w. rw (w .2) (byte-fixed (s .args .domain .now) (s .args .n) (l .rules) (l .i) (w .1 .result) (l .inv .2 .long) (omega arith) (omega (arith, w .0 .taken)) (rw e at (w .1 .ensures))))
-          (λ w. rw (w .1) (byte-low (s .args .domain .now) (s .args .n) (l .rules) (l .i) (l .inv .2 .long) (omega (arith, w .0 .left)))) (c .if1 .came)),
+      bytes-join (l .i) (l .i + 1) (l .inv .0) (omega arith) (l .inv .2) (⊎-elim
+          (λ w. rw (w .2) (byte-fixed (l .i) (w .1 .result) (l .inv .2 .long) (omega arith) (omega (arith, w .0 .taken)) (rw e at (w .1 .ensures))))
+          (λ w. rw (w .1) (byte-low (l .i) (l .inv .2 .long) (omega (arith, w .0 .left)))) (c .if1 .came)),
     )
 
 returns : tie.Need-returns Inv-loop μ-loop
