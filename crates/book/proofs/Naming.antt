@@ -11,10 +11,7 @@ use Rattle.semantics.specs.Formats.{named, termOf, term, kind}
 use Rattle.block.specs.Layout.{termIn, kindIn}
 use Rattle.reader.specs.Cursor.{Yields, stopped}
 use Rattle.reader.specs.declared.Cursor.{Cursor}
-use Rattle.reader.proofs.Chain.{chain, done, passed, failed, become, alike}
-
-term-in : (v : ℕ) → v < 128 → var v ≡ termIn v
-term-in v l = rw (lt-ltb v 128 l, termIn)
+use Rattle.reader.proofs.Chain.{chain, done, passed, failed, alike}
 
 -- what a byte says as a term
 module _ (bytes : List ℕ) (c c₁ : Cursor) (n v : ℕ) (h : Yields (byte 1) bytes c c₁ v) where
@@ -22,7 +19,8 @@ module _ (bytes : List ℕ) (c c₁ : Cursor) (n v : ℕ) (h : Yields (byte 1) b
   term-nil e = chain (termOf n) h (rw (eq-eqb v 255 e, termOf) (done bytes c₁ (fixed 0)))
 
   pub term-var : (v ≡ 255 → ⊥) → v < n → n ≤ 8 → Yields (term n) bytes c c₁ (termIn v)
-  term-var e l k = become (term-in v (omega arith)) (chain (termOf n) h (rw (ne-eqb v 255 e, termOf) (passed bytes c₁ (ltb v n) 3 (var v) (lt-ltb v n l))))
+  term-var e l k =
+      rw (lt-ltb v 128 (omega arith), termIn) (chain (termOf n) h (rw (ne-eqb v 255 e, termOf) (passed bytes c₁ (ltb v n) 3 (var v) (lt-ltb v n l))))
 
   pub term-off : (v ≡ 255 → ⊥) → n ≤ v → (t : Term) → Yields (term n) bytes c (stopped 3 c₁) t
   term-off e l t = chain (termOf n) h (rw (ne-eqb v 255 e, termOf) (failed bytes c₁ (ltb v n) 3 (var v) t (le-ltb v n l)))

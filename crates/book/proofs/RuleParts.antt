@@ -125,9 +125,6 @@ bound-read {A} arity next few h k = alike _ same (chain (λ b. next b (arity + b
     same [] = refl
     same (b ∷ bytes) = rw (le-leb 0 b (omega arith), same-test arity b few) (tested (leb b (8 - arity)) b bytes)
 
-same-body : {arities arities′ : List ℕ} {h h′ n n′ : ℕ} (bound : ℕ) → arities ≡ arities′ → h ≡ h′ → n ≡ n′ → body arities h bound n ≡ body arities′ h′ bound n′
-same-body bound p q r = rw (p, q, r)
-
 pub rule-fills : (at : ℕ) {bytes : List ℕ} {c c₁ c₂ c₃ : Cursor} {b b₁ b₂ b₃ : List ℕ} → Header b → 16 ≤ at → Fills (nameLayout (getD b 0 0)) at bytes c b b₁ c₁
     → Fills (countLayout 0 (8 - getD b₁ (8 + getD b₁ at 0) 0)) (at + 1) bytes c₁ b₁ b₂ c₂
     → Body at (getD b₁ (8 + getD b₁ at 0) 0 + getD b₂ (at + 1) 0) bytes c₂ b₂ b₃ c₃ → Fills (ruleLayout (aritiesIn b)) at bytes c b b₃ c₃
@@ -142,7 +139,7 @@ rule-fills at {bytes} {c₂ = c₂} {c₃ = c₃} {b} {b₁} {b₂} {b₃} heade
           chain _ (turn (ap named (sym (arities-length b))) (name .reads))
           (bound-read (getD (aritiesIn b) (getD b₁ at 0) 0) (body (aritiesIn b) (getD b₁ at 0)) (rw (← n) (omega arith))
           (turn (ap (λ (m : ℕ). rangedByte 1 2 0 (8 - m)) n) (bound .reads))
-          (turn (same-body (getD b₂ (at + 1) 0) e h (ap (λ (m : ℕ). m + getD b₂ (at + 1) 0) n)) (rest .reads)));
+          (rw (e, h, n) at (rest .reads)));
       sized = rest .sized;
       kept = kept-both at (at + 72) k (rest .kept) (omega arith);
     }

@@ -1,4 +1,3 @@
 pub mod Answers
 pub mod HouseRead
-pub mod LadderParts
 pub mod QueryParts

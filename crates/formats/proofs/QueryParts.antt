@@ -57,8 +57,6 @@ query-fills {bytes} {c} {r} {name} {count} {rules} {q} {q′} {p} {k} header nam
     (chain _ (turn (ap (λ (m : ℕ). times m (value 9)) e₁) (values .reads)) (done bytes r _))))
 
 -- the first two places of the block
-pub first-stored : (q : List ℕ) (x y : ℕ) → length q ≡ 6 → getD (set (set q 0 x) 1 y) 0 0 ≡ x
-first-stored q x y l = getD-set-other (set q 0 x) 1 0 y 0 (λ e. omega arith) ∙ getD-set-same q 0 x 0 (omega arith)
-
-pub second-stored : (q : List ℕ) (x y : ℕ) → length q ≡ 6 → getD (set (set q 0 x) 1 y) 1 0 ≡ y
-second-stored q x y l = getD-set-same (set q 0 x) 1 y 0 (rw (length-set q 0 x) (omega arith))
+pub both-stored : (q : List ℕ) (x y : ℕ) → length q ≡ 6 → (getD (set (set q 0 x) 1 y) 0 0 ≡ x) × (getD (set (set q 0 x) 1 y) 1 0 ≡ y)
+both-stored q x y l =
+    (getD-set-other (set q 0 x) 1 0 y 0 (λ e. omega arith) ∙ getD-set-same q 0 x 0 (omega arith), getD-set-same (set q 0 x) 1 y 0 (simp length-set (omega arith)))

@@ -61,9 +61,6 @@ module _ (α : NamedLft) where
   pub reader-told : (d : Reader) (u : Val) → Is row d (u ∷ []) → u ≡ readerVal (d .bytes) (d .at)
   reader-told d u is = ap only (struct-laws.tells (reader.the-type α) (reader-laws.the-laws α) d (u ∷ []) is)
 
-  reader-is : (s : RefT (List ℕ)) (c : Cursor) → IsBytes s → IsCursor c → Is row (record { bytes = s; at = c }) (readerVal s c ∷ [])
-  reader-is s c p q = struct-laws.owes (reader.the-type α) (reader-laws.the-laws α) (record { bytes = s; at = c }) (p, (q, tt))
-
   module _ {M : Type 1} (𝓤 : URA M) (H : Heap 𝓤) (A : Atoms 𝓤) (W : Given 𝓤 H A) where
     pub cursor-typed : (c : Cursor) → IsCursor c → Holds (hasTy cursor-laws.mir (cursorVal c)) × WT (cursorVal c)
     cursor-typed c is = enum-laws.lawful cursor.the-type cursor-laws.the-laws 𝓤 H A W tt .typed c (cursorVal c ∷ []) is .0
@@ -72,7 +69,8 @@ module _ (α : NamedLft) where
     reader-typed d u is = struct-laws.lawful (reader.the-type α) (reader-laws.the-laws α) 𝓤 H A W .typed d (u ∷ []) is .0
 
     pub made-typed : (s : RefT (List ℕ)) (c : Cursor) → IsBytes s → IsCursor c → Holds (hasTy (reader-laws.mir (α .mir)) (readerVal s c)) × WT (readerVal s c)
-    made-typed s c p q = reader-typed (record { bytes = s; at = c }) (readerVal s c) (reader-is s c p q)
+    made-typed s c p q =
+        let d : Reader = record { bytes = s; at = c } in reader-typed d (readerVal s c) (struct-laws.owes (reader.the-type α) (reader-laws.the-laws α) d (p, (q, tt)))
 
     pub apart : (d : Reader) (u : Val) → ent 𝓤 (sem 𝓤 H A (row .own d (u ∷ [])))
         (sep 𝓤 (sem 𝓤 H A (Bytes .own (d .bytes) (sliceOf (d .bytes) ∷ []))) (sem 𝓤 H A (Bytes .own (d .bytes) (sliceOf (d .bytes) ∷ []))))

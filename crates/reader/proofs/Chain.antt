@@ -35,11 +35,8 @@ pub passed : {A : Type 0} (bytes : List ℕ) (c : Cursor) (t : Bool) (n : ℕ) (
 passed bytes c t n a e = rw e (done bytes c a)
 
 pub failed : {A : Type 0} (bytes : List ℕ) (c : Cursor) (t : Bool) (n : ℕ) (a b : A) → t ≡ false → Yields (ensure t n a) bytes c (stopped n c) b
-failed {A} bytes c t n a b e = rw e (go c)
-  where
-    go : (c : Cursor) → Yields (ensure false n a) bytes c (stopped n c) b
-    go (At at) = record { is = refl }
-    go (Fault m) = record { is = refl }
+failed bytes (At at) t n a b e = record { is = rw e }
+failed bytes (Fault m) t n a b e = record { is = refl }
 
 pub over : {A : Type 0} (bytes : List ℕ) (c : Cursor) (n : ℕ) (read : Reader A) (b : A) → Yields read bytes (stopped n c) (stopped n c) b
 over bytes (At at) n read b = record { is = refl }

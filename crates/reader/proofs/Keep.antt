@@ -1,6 +1,6 @@
 -- What a block keeps: after a store, after several steps, and for an entry that lies apart from what was written.
 use mathlib.Core.Path.{_≡_, refl, sym, ap, _∙_}
-use mathlib.Core.Logic.{_⊎_, inl, inr, ⊎-elim, _≢_}
+use mathlib.Core.Logic.{_⊎_, inl, inr, ⊎-elim}
 use mathlib.Core.List.{List}
 use Prim.Native.Nat.{ℕ, _+_, _≤_, _<_}
 use native.Mathlib.Omega.{arith}
@@ -16,10 +16,7 @@ pub kept-none : (from to : ℕ) (b : List ℕ) → Kept from to b b
 kept-none from to b = record { long = refl; same = λ i h. refl }
 
 pub kept-set : (b : List ℕ) (at v : ℕ) → Kept at (at + 1) b (set b at v)
-kept-set b at v = record { long = length-set b at v; same = λ i h. getD-set-other b at i v 0 (apart i h) }
-  where
-    apart : (i : ℕ) → (i < at) ⊎ (at + 1 ≤ i) → i ≢ at
-    apart i h e = ⊎-elim (λ l. omega arith) (λ l. omega arith) h
+kept-set b at v = record { long = length-set b at v; same = λ i h. getD-set-other b at i v 0 (λ e. ⊎-elim (λ l. omega arith) (λ l. omega arith) h) }
 
 -- two steps, within one range
 pub kept-both : {f t f₁ t₁ : ℕ} {b b₁ b₂ : List ℕ} (from to : ℕ) → Kept f t b b₁ → Kept f₁ t₁ b₁ b₂

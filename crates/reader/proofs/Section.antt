@@ -1,7 +1,7 @@
 -- Entries side by side in a block. An entry that lies apart from what is written stays what it is, so that a loop that fills entry after
 -- entry keeps what it promises: it has filled `many k` of them.
 use mathlib.Core.Path.{_≡_, sym, ap, _∙_}
-use mathlib.Core.Logic.{_⊎_, inl, inr, ⊎-elim}
+use mathlib.Core.Logic.{inl}
 use mathlib.Core.List.{List, [], _∷_, _++_}
 use Prim.Native.Nat.{ℕ, _+_, _*_, _≤_, _<_}
 use native.Mathlib.Nat.{mul-suc, mul-le-mul-left}
@@ -25,13 +25,6 @@ pub record Local {A : Type 0} (layout : Layout A) : Type 0 where
       → ((i : ℕ) → at ≤ i → i < at + layout .width → getD b′ i 0 ≡ getD b i 0)
       → layout .Sized b at → (layout .held b′ at ≡ layout .held b at) × layout .Sized b′ at
 
--- an entry that lies apart from what is written
-pub pass : {A : Type 0} (layout : Layout A) → Local layout → {from to : ℕ} {b b′ : List ℕ} (at : ℕ) → Kept from to b b′ → layout .low ≤ from
-    → (at + layout .width ≤ from) ⊎ (to ≤ at) → layout .Sized b at → (layout .held b′ at ≡ layout .held b at) × layout .Sized b′ at
-pass layout local {from} {to} {b} {b′} at k l apart s =
-    local .same b b′ at (λ i h. k .same i (inl (omega arith)))
-    (λ i h₁ h₂. k .same i (⊎-elim (λ p. inl (omega arith)) (λ p. inr (omega arith)) apart)) s
-
 -- places of entries of width w
 next-place : (w k : ℕ) → w * (k + 1) ≡ w * k + w
 next-place w k = rw (add-one k) (mul-suc w k)
@@ -53,7 +46,9 @@ module _ {A : Type 0} (layout : Layout A) where
   }
     where
       here : (i : ℕ) → i < k → (layout .held b′ (from + layout .width * i) ≡ layout .held b (from + layout .width * i)) × layout .Sized b′ (from + layout .width * i)
-      here i p = pass layout local (from + layout .width * i) kept (omega arith) (inl (omega (arith, before-place (layout .width) i k p))) (h .sized i p)
+      here i p =
+          local .same b b′ (from + layout .width * i) (λ j q. kept .same j (inl (omega arith)))
+          (λ j q₁ q₂. kept .same j (inl (omega (arith, before-place (layout .width) i k p)))) (h .sized i p)
 
       all : (i : ℕ) → i < k + 1 → Dec (i < k) → layout .Sized b′ (from + layout .width * i)
       all i p (yes q) = here i q .1

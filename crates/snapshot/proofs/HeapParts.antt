@@ -15,7 +15,7 @@ use Rattle.words.specs.Entries.{tabulate}
 use Rattle.block.specs.Layout.{recordIn, heapIn}
 use Rattle.words.proofs.Tabulate.{tabulate-more}
 use Rattle.reader.specs.Cursor.{Yields, stopped}
-use Rattle.reader.specs.Layout.{valueLayout, Layout, Fills, many}
+use Rattle.reader.specs.Layout.{valueLayout, Fills, many}
 use Rattle.snapshot.specs.HeapLayout.{addressLayout, sizeLayout, record-above, recordLayout, recordsLayout, AfterWord}
 use Rattle.reader.specs.declared.Cursor.{Cursor}
 use Rattle.reader.proofs.Chain.{assoc, chain, done, turn, passed, failed}
@@ -52,10 +52,6 @@ record-after low at {bytes} {c₃ = c₃} {b = b} {b₁ = b₁} {b₂ = b₂} {b
       sized = rw m (count .sized .high);
       kept = kept-both at (at + 6) (kept-both at (at + 6) (above .kept) (count .kept) (omega arith)) (fields .kept) (omega (arith, count .sized .high));
     }
-
-pub from-word : {A : Type 0} {layout : Layout A} {at : ℕ} {bytes : List ℕ} {c₀ c r : Cursor} {v : ℕ} {b b′ : List ℕ} → Yields (word 5) bytes c₀ c v
-    → AfterWord layout at bytes c v b b′ r → Fills layout at bytes c₀ b b′ r
-from-word {c₀ = c₀} y h = record { reads = h .reads c₀ y; sized = h .sized; kept = h .kept }
 
 -- the definition's records, each reader after the address that the record before left behind
 abbrev addressOf : Record → ℕ
@@ -103,10 +99,6 @@ records-more {bytes} {c₀} {c} {c′} {b₀} {b} {b′} low k e h here =
     (rw (add-one k)
     (turn (records-threaded (suc k) 0)
     (threaded-more record-above addressOf k 0 (recordsIn b k) (recordIn b′ (1 + 6 * k)) (turn (sym (records-threaded k 0)) (h .reads)) (rw (← e) (here .reads)))))
-
-pub records-whole : {bytes : List ℕ} {c c′ : Cursor} {b b′ : List ℕ} {k : ℕ} (count : ℕ) → k ≤ count → count ≤ k
-    → Fills (recordsLayout k) 1 bytes c b b′ c′ → Fills (recordsLayout count) 1 bytes c b b′ c′
-records-whole {k = k} count l₁ l₂ h = let e : k ≡ count = omega arith in rw e at h
 
 -- the count and the records make the heap
 pub heap-fills : {bytes : List ℕ} {c c₁ c₂ : Cursor} {b b₁ b₂ : List ℕ} → Fills (sizeLayout 16) 0 bytes c b b₁ c₁

@@ -12,7 +12,7 @@ use Rattle.reader.specs.declared.Cursor.{Cursor}
 use Rattle.reader.specs.declared.Reader.{Reader}
 use Rattle.reader.proofs.Carry.{cursorVal, sliceOf, readerVal, IsCursor, cursor-makes, Bytes, IsBytes, parts-are, reader-told, cursor-typed}
 use Rattle.reader.proofs.Carry.{reader-typed, made-typed, together}
-use Rattle.reader.proofs.Walk.{URA, fullShare, named, erased, w32, w64, Val, vint, SProp, ent, emp, id⊢, Lft, Share, ftrue, fat, flft}
+use Rattle.reader.proofs.Walk.{Vals, URA, fullShare, named, erased, w32, w64, Val, vint, SProp, ent, emp, id⊢, Lft, Share, ftrue, fat, flft}
 use Rattle.reader.proofs.Walk.{Memory, Routine, Heap, Calls, Loops, WpFn, FmC, fmOf, Atoms, Fun, factI, givenOf, tables, tablesOf, Given, ‵}
 use Rattle.reader.proofs.Walk.{raw, _⊛_, _$_, _∵_, !, qed, move, drop, use1, join, fsplit, fjoin, rewrite, suffices, frame, done, agg}
 use Rattle.reader.proofs.Walk.{whole, sub, look-in, look, init, stop, hop, fld, from, addr, of-opd, and-then, no-more, land, returns, enter}
@@ -50,20 +50,14 @@ module _ {M : Type 1} (𝓤 : URA M) (H : Heap 𝓤) (A : Atoms 𝓤) (W : Given
   abbrev b : Val
   b = sliceOf h
 
+  abbrev passed : Vals plain.signature (κ, (μ, tt))
+  passed = (sliceOf s ∷ [], (cursorVal c ∷ [], (b ∷ [], (vint w64 at ∷ [], (vint w32 low ∷ [], tt)))))
+
   abbrev here : Here .Ghost
-  here = (
-    (
-      (κ, (μ, tt)),
-      (q, (p, tt)),
-      tt,
-      (s, (c, (h, (at, (low, tt))))),
-      (sliceOf s ∷ [], (cursorVal c ∷ [], (b ∷ [], (vint w64 at ∷ [], (vint w32 low ∷ [], tt))))),
-    ),
-    tt,
-  )
+  here = (((κ, (μ, tt)), (q, (p, tt)), tt, (s, (c, (h, (at, (low, tt))))), passed), tt)
 
   abbrev Start : SProp 𝓤
-  Start = onEntry 𝓤 H A plain.signature (κ, (μ, tt)) (q, (p, tt)) (s, (c, (h, (at, (low, tt))))) (here .0 .4)
+  Start = onEntry 𝓤 H A plain.signature (κ, (μ, tt)) (q, (p, tt)) (s, (c, (h, (at, (low, tt))))) passed
 
   abbrev made : Reader
   made = record { bytes = s; at = c }
@@ -74,7 +68,7 @@ module _ {M : Type 1} (𝓤 : URA M) (H : Heap 𝓤) (A : Atoms 𝓤) (W : Given
   to-record : IsCursor c → at + 6 ≤ length (h .now) → ent 𝓤 Start (There .pre there)
   to-record is within =
       qed W ((‵ (flft κ q) ⊛ (‵ (flft μ p) ⊛ ‵ ftrue)) ∷
-      ‵ (owns (Bytes α ∷ cursor.the-row ∷ MutSlice (named 1) μ u32 ∷ usize ∷ u32 ∷ []) (s, (c, (h, (at, (low, tt))))) (here .0 .4)) ∷ []) ∵
+      ‵ (owns (Bytes α ∷ cursor.the-row ∷ MutSlice (named 1) μ u32 ∷ usize ∷ u32 ∷ []) (s, (c, (h, (at, (low, tt))))) passed) ∷ []) ∵
       says ! within $ frame ! $ fsplit ! $ use1 W (‵ (reader.the-row α .own made (readerVal s c ∷ []))) (together α 𝓤 H A W s c is) $
       move ! (1 ∷ []) $ fsplit ! $ drop ! $ move ! (1 ∷ 0 ∷ []) $ fjoin ! $ done !
 
@@ -115,16 +109,11 @@ unfolding code.routine tablesOf
 heap-record-spec 𝓤 H 𝓜 𝓖 𝓡 =
     let T = tables 𝓤 H 𝓜 𝓡 code.env in
     let W = givenOf 𝓤 H 𝓜 𝓖 in
+    let told = enum-laws.tells cursor.the-type cursor-laws.the-laws in
     keeps 𝓤 H (𝓖 .A) plain.ended (plain.clauses 𝓤 H (𝓖 .A) (𝓜 .mem) (𝓡 .run)) (T .C) (T .Λ) code.function
     (λ κs. (slice-vals, (enum-laws.vals cursor.the-type cursor-laws.the-laws, (slice-vals, (uint-vals w64, (uint-vals w32, tt))))))
     (λ κs a. a .1 .1 .1 .0 + 6 ≤ length (a .1 .1 .0 .now)) (λ κs a g. id⊢ 𝓤 _) key.name (code.unfolded 𝓤 H 𝓜 𝓡)
-    (λ κs. (
-      shr-slice-tells (named 0) (κs .0) u8,
-      (
-        enum-laws.tells cursor.the-type cursor-laws.the-laws,
-        (mut-slice-tells (named 1) (κs .1 .0) u32, (uint-tells w64, (uint-tells w32, tt))),
-      ),
-    ))
+    (λ κs. (shr-slice-tells (named 0) (κs .0) u8, (told, (mut-slice-tells (named 1) (κs .1 .0) u32, (uint-tells w64, (uint-tells w32, tt))))))
     (λ κs qs bounds a g within are.
     walk 𝓤 H (𝓖 .A) W (𝓜 .mem) (𝓡 .run) (T .C) (T .Λ) (κs .0) (κs .1 .0) (qs .0) (qs .1 .0) (a .0) (a .1 .0) (a .1 .1 .0) (a .1 .1 .1 .0) (a .1 .1 .1 .1 .0)
     (are .0) (are .1 .0) (are .1 .1 .0) (are .1 .1 .1 .0 .1) (are .1 .1 .1 .1 .0 .1) within (fmOf 𝓤 H (W .laws) (tablesOf 𝓤 H 𝓜 T))

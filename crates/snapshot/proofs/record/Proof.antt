@@ -17,14 +17,13 @@ use Rattle.reader.specs.Layout.{Fills}
 use Rattle.reader.specs.declared.Cursor.{Cursor}
 use Rattle.reader.specs.declared.Reader.{Reader}
 use Rattle.reader.specs.declared.Word.{Word}
-use Rattle.snapshot.proofs.HeapParts.{from-word}
 use Rattle.reader.proofs.Carry.{cursorVal, sliceOf, readerVal, cursor-is, cursor-told, cursor-makes, Bytes, cursor-typed, reader-typed}
 use Rattle.reader.proofs.Carry.{made-typed, together}
-use Rattle.reader.proofs.Walk.{URA, fullShare, named, erased, w8, w32, w64, Val, vint, SProp, ent, sep, emp, id⊢, Lft, Share, Fml, ftrue}
-use Rattle.reader.proofs.Walk.{fat, flft, Memory, Routine, Heap, Calls, Loops, WpFn, FmC, fmOf, Atoms, sem, Fun, factI, givenOf, tables}
-use Rattle.reader.proofs.Walk.{tablesOf, Given, ‵, raw, _⊛_, given, _$_, _∵_, !, qed, move, keep, drop, use1, use2, use3, split, join}
-use Rattle.reader.proofs.Walk.{learn, fsplit, fjoin, rewrite, suffices, frame, done, agg, whole, sub, look-in, look, init, stop, hop, fld}
-use Rattle.reader.proofs.Walk.{from, lit, addr, of-opd, and-then, no-more, land, returns, enter, alloc1, alloc0, params1, pass1, pass0}
+use Rattle.reader.proofs.Walk.{Vals, URA, fullShare, named, erased, w8, w32, w64, Val, vint, SProp, ent, sep, emp, id⊢, Lft, Share, Fml}
+use Rattle.reader.proofs.Walk.{ftrue, fat, flft, Memory, Routine, Heap, Calls, Loops, WpFn, FmC, fmOf, Atoms, sem, Fun, factI, givenOf}
+use Rattle.reader.proofs.Walk.{tables, tablesOf, Given, ‵, raw, _⊛_, given, _$_, _∵_, !, qed, move, keep, drop, use1, use2, use3, split}
+use Rattle.reader.proofs.Walk.{join, learn, fsplit, fjoin, rewrite, suffices, frame, done, agg, whole, sub, look-in, look, init, stop, hop}
+use Rattle.reader.proofs.Walk.{fld, from, lit, addr, of-opd, and-then, no-more, land, returns, enter, alloc1, alloc0, params1, pass1, pass0}
 use Rattle.reader.proofs.Walk.{free0, owns, Is, uint-vals, uint-tells, uint-makes, u8, u32, usize, RefT, NamedLft, namedLft, MutSlice}
 use Rattle.reader.proofs.Walk.{slice-vals, shr-slice-copy, mut-slice-tells, mut-slice-lawful, nothing, owned, only, calls-at, onEntry}
 use Rattle.reader.proofs.Walk.{Contract, Triple, cited, Promise, leaves, comes, keeps, local, part, sets, gone, goes}
@@ -95,17 +94,11 @@ module _ {M : Type 1} (𝓤 : URA M) (H : Heap 𝓤) (A : Atoms 𝓤) (W : Given
     abbrev Slice : Fml
     Slice = Bytes α .own (r .bytes) (sliceOf (r .bytes) ∷ [])
 
+    abbrev handed : Vals below.signature (κ, (μ, tt))
+    handed = (sliceOf (r .bytes) ∷ [], (cursorVal (r .at) ∷ [], (vint w32 (r .value) ∷ [], (b ∷ [], (vint w64 at ∷ [], (vint w32 low ∷ [], tt))))))
+
     abbrev then : Then .Ghost
-    then = (
-      (
-        (κ, (μ, tt)),
-        (q, (p, tt)),
-        tt,
-        (r .bytes, (r .at, (r .value, (h, (at, (low, tt)))))),
-        (sliceOf (r .bytes) ∷ [], (cursorVal (r .at) ∷ [], (vint w32 (r .value) ∷ [], (b ∷ [], (vint w64 at ∷ [], (vint w32 low ∷ [], tt)))))),
-      ),
-      tt,
-    )
+    then = (((κ, (μ, tt)), (q, (p, tt)), tt, (r .bytes, (r .at, (r .value, (h, (at, (low, tt)))))), handed), tt)
 
     abbrev val : Val
     val = struct-laws.val (word-of.the-type α) (word-laws.the-laws α) r
@@ -132,7 +125,7 @@ module _ {M : Type 1} (𝓤 : URA M) (H : Heap 𝓤) (A : Atoms 𝓤) (W : Given
   Told r c zs = AfterWord (recordLayout low) at (now (r .bytes)) (r .at) (r .value) (h .now) zs c
 
   fills : (r : Word) (c : Cursor) (zs : List ℕ) → Read r → Told r c zs → Fills (recordLayout low) at (now (d .bytes)) (d .at) (h .now) zs c
-  fills r c zs read told = from-word (read .1) (rw (read .0) at told)
+  fills r c zs read told = let t = rw (read .0) at told in record { reads = t .reads (d .at) (read .1); sized = t .sized; kept = t .kept }
 
   walk : Is (reader.the-row α) d (u ∷ []) → Is (MutSlice (named 1) μ u32) h (b ∷ []) → at < 2 ^ 64 → low < 2 ^ 32 → at + 6 ≤ length (h .now)
       → FmC 𝓤 H (W .laws) C → Triple 𝓤 (C word-code.name) First → Triple 𝓤 (C below-code.name) Then

@@ -4,7 +4,7 @@ use Prim.Native.Nat.{_≤_, _-_}
 use mathlib.Core.Path.{_≡_}
 use Rattle.snapshot.specs.HeapLayout.{recordsLayout}
 use Rattle.reader.specs.Layout.{Fills}
-use Rattle.snapshot.proofs.HeapParts.{lastAddress, last-none, last-more, records-none, records-more, records-whole}
+use Rattle.snapshot.proofs.HeapParts.{lastAddress, last-none, last-more, records-none, records-more}
 use Rattle.snapshot.proofs.records.Statement.{statement}
 use Rattle.snapshot.proofs.records.Tie as tie
 
@@ -26,4 +26,4 @@ records-spec =
     (λ c. let d = c .before .before .before in let l = d .before .before .before .loop in
     (omega arith, last-more (d .heap-record .last .1 .1 .0) (l .k), records-more (l .low) (l .k) (l .inv .1) (l .inv .2) (d .heap-record .ensures)))
     (λ c. c .before .loop .inv .2 .kept .long)
-    (λ c. let l = c .before .loop in records-whole (c .before .before .before .before .args .count) (l .inv .0) (c .loop-test .left) (l .inv .2)))
+    (λ c. let l = c .before .loop in let e : l .k ≡ c .before .before .before .before .args .count = omega (arith, c .loop-test .left) in rw e at (l .inv .2)))

@@ -5,7 +5,7 @@ use lib.ListN.{length-set}
 use Rattle.semantics.specs.Formats.{query, readQuery}
 use Rattle.book.specs.BookLayout.{aritiesIn}
 use Rattle.reader.proofs.Finishing.{finish-is}
-use Rattle.formats.proofs.QueryParts.{query-fills, first-stored, second-stored}
+use Rattle.formats.proofs.QueryParts.{query-fills, both-stored}
 use borrow.Author.Needs.{needs}
 use Rattle.formats.proofs.question.read_query.Statement.{statement}
 use Rattle.formats.proofs.question.read_query.Tie as tie
@@ -24,13 +24,13 @@ returns c =
     let p = c .before .before .before .before .before .before .before .before .before .before .before .before .before .before .pre in
     let x = c .before .before .before .before .before .wide2 in
     let k = c .before .before .before .before .before .before .wide in
+    let stored = both-stored q (x .result) (k .result) (p .1) in
     let values = c .before .before .before .values .ensures in
     record {
       is =
           rw (c .finish .ensures)
           (finish-is 9 (query (aritiesIn (c .before .before .before .before .before .before .before .before .before .before .before .before .before .before .args .rules .now)))
-          (query-fills (p .0) (c .before .before .before .before .before .before .before .before .before .before .below .ensures) (c .before .before .before .before .before .before .before .ranged .ensures) (x .ensures .0) (k .ensures .0) (first-stored q (x .result) (k .result) (p .1))
-          (second-stored q (x .result) (k .result) (p .1)) values));
+          (query-fills (p .0) (c .before .before .before .before .before .before .before .before .before .before .below .ensures) (c .before .before .before .before .before .before .before .ranged .ensures) (x .ensures .0) (k .ensures .0) (stored .0) (stored .1) values));
       long = values .kept .long ∙ simp length-set;
     }
 
