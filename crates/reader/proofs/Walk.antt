@@ -1,5 +1,5 @@
--- Walks by hand: how such a walk begins, what a call hands back in it, and what is owed at the return. Of a parameter that is read nothing
--- is owed there; of a block that is written, what the last call that was lent it says of its last list.
+-- Walks by hand: how such a walk begins, how locals are read, set and freed, what a call hands back, and what is owed at the return. Of a
+-- parameter that is read nothing is owed there; of a block that is written, what the last call that was lent it says of its last list.
 use mathlib.Core.Path.{_≡_, sym, subst}
 use mathlib.Core.List.{List, [], _∷_}
 use mathlib.Core.Option.{some as some-of}

@@ -17,7 +17,8 @@ pub arities-spec : {M : Type 1} → statement M
 arities-spec =
     tie.close
     (tie.spec Inv-loop μ-loop (λ c. none)
-    (λ c. omega (arith, c .before .before .before .before .before .pre)) (λ c κs. (omega arith, rw (c .before .before .loop .inv .fills .kept .long) (omega (arith, c .before .before .before .before .before .pre))))
+    (λ c. omega (arith, c .before .before .before .before .before .pre))
+    (λ c κs. (omega arith, rw (c .before .before .loop .inv .fills .kept .long) (omega (arith, c .before .before .before .before .before .pre))))
     (λ c. omega arith) (λ c. omega arith)
     (λ c. more (count-local 0 4) (omega arith) (c .before .before .before .before .before .loop .inv) (c .before .before .count .ensures) (omega arith) (omega arith))
     (λ c. c .before .loop .inv .fills .kept .long) (λ c. whole (c .loop-test .left) (c .before .loop .inv)))

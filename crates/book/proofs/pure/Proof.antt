@@ -16,5 +16,6 @@ pure-spec =
     (tie.spec (λ c κs. omega arith) (λ c. omega arith)
     (λ c κs. (c .before .before .before .before .before .before .before .pre .0, omega (arith, c .before .before .before .named .ensures .kept .long)))
     (λ c. omega (arith, c .before .before .before .before .before .before .before .before .before .before .before .pre))
-    (λ c κs. let d = c .before .before .before in let p = d .before .before .before .before .before .before .before .before .pre in (p .0, omega (arith, p .1, d .term .ensures, d .before .before .before .before .named .ensures)))
+    (λ c κs. let d = c .before .before .before in let p = d .before .before .before .before .before .before .before .before .pre in
+    (p .0, omega (arith, p .1, d .term .ensures, d .before .before .before .before .named .ensures)))
     (λ c. returns c .kept .long) returns)

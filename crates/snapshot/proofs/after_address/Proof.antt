@@ -14,10 +14,13 @@ returns c =
 pub after-address-spec : {M : Type 1} → statement M
 after-address-spec =
     tie.close
-    (tie.spec (λ c κs. omega arith) (λ c. omega arith) (λ c κs. omega (arith, c .before .before .before .before .before .before .before .pre, c .before .before .before .address .ensures [] .kept .long))
+    (tie.spec (λ c κs. omega arith) (λ c. omega arith)
+    (λ c κs. omega (arith, c .before .before .before .before .before .before .before .pre, c .before .before .before .address .ensures [] .kept .long))
     (λ c. let s = c .before .before .before .before .before .before .before .before .before .before in omega (arith, s .pre, s .good .1 .1 .0))
     (λ c. let s = c .before .before .before .before .before .before .before .before .before .before in omega (arith, s .pre, s .good .1 .1 .0))
-    (λ c. let d = c .before .before .before in omega (arith, d .before .before .before .before .before .before .before .before .pre, d .size .ensures, d .before .before .before .before .address .ensures [] .kept .long))
+    (λ c. let d = c .before .before .before in
+    omega (arith, d .before .before .before .before .before .before .before .before .pre, d .size .ensures, d .before .before .before .before .address .ensures [] .kept .long))
     (λ c. let s = c .before .before .before .before .before .before .before .before .before .before .before .before in omega (arith, s .pre, s .good .1 .1 .0))
-    (λ c κs. let d = c .before .before .before .before in omega (arith, d .before .before .before .before .before .before .before .before .pre, d .size .ensures, d .before .before .before .before .address .ensures [] .kept .long))
+    (λ c κs. let d = c .before .before .before .before in
+    omega (arith, d .before .before .before .before .before .before .before .before .pre, d .size .ensures, d .before .before .before .before .address .ensures [] .kept .long))
     (λ c. returns c .kept .long) returns)

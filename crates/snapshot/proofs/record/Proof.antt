@@ -100,16 +100,14 @@ module _ {M : Type 1} (𝓤 : URA M) (H : Heap 𝓤) (A : Atoms 𝓤) (W : Given
     abbrev then : Then .Ghost
     then = (((κ, (μ, tt)), (q, (p, tt)), tt, (r .bytes, (r .at, (r .value, (h, (at, (low, tt)))))), handed), tt)
 
-    abbrev val : Val
-    val = struct-laws.val (word-of.the-type α) (word-laws.the-laws α) r
-
     to-below : (w : Val) → Is (word-of.the-row α) r (w ∷ []) → at + 6 ≤ length (h .now)
         → ent 𝓤 (sep 𝓤 (sem 𝓤 H A (word-of.the-row α .own r (w ∷ []))) (sep 𝓤 (sep 𝓤 (sem 𝓤 H A (flft κ q)) (sem 𝓤 H A ftrue))
         (sep 𝓤 (sep 𝓤 (sem 𝓤 H A (flft μ p)) (sem 𝓤 H A ftrue)) (sem 𝓤 H A Rest)))) (sep 𝓤 (Then .pre then) (sem 𝓤 H A Slice))
     to-below w is within =
         let fields = struct-laws.owed (word-of.the-type α) (word-laws.the-laws α) r (w ∷ []) is in
         qed W (‵ (word-of.the-row α .own r (w ∷ [])) ∷ (‵ (flft κ q) ⊛ ‵ ftrue) ∷ ((‵ (flft μ p) ⊛ ‵ ftrue) ⊛ ‵ Rest) ∷ []) ∵
-        use1 W (given (w ∷ [] ≡ val ∷ []) (‵ (all-own (word-of.the-type α .parts) (word-laws.the-laws α) (r .bytes, (r .at, (r .value, tt))))))
+        use1 W (given (w ∷ [] ≡ struct-laws.val (word-of.the-type α) (word-laws.the-laws α) r ∷ []) (‵ (all-own (word-of.the-type α .parts)
+        (word-laws.the-laws α) (r .bytes, (r .at, (r .value, tt))))))
         (own-open 𝓤 H A W (word-of.the-type α) (word-laws.the-laws α) (r .bytes, (r .at, (r .value, tt))) w) $ learn ! (λ _. fsplit ! $ move ! (1 ∷ []) $ drop ! $
         use1 W (‵ Slice ⊛ ‵ Slice) (shr-slice-copy 𝓤 H A W (named 0) κ u8 .twice (r .bytes) (sliceOf (r .bytes) ∷ [])) $ split ! $
         -- [the slice; the slice; the reader's token; the block's token, and the rest]

@@ -22,7 +22,8 @@ records-spec =
     (λ c κs. rw (c .before .before .loop .inv .2 .kept .long) (omega (arith, c .before .before .before .before .before .pre)))
     (λ c. omega (arith, c .before .before .before .before .before .before .before .before .pre)) (λ c. omega (arith, c .before .before .before .before .before .before .before .before .pre))
     (λ c. let s = c .before .before .before .before .before .before .before .before in omega (arith, s .pre, s .good .1 .1 .0))
-    (λ c. let d = c .before .before .before in omega (arith, d .before .before .before .before .before .before .pre, d .heap-record .ensures, d .before .before .before .loop .inv .2)) (λ c. omega arith) (λ c. omega arith)
+    (λ c. let d = c .before .before .before in
+    omega (arith, d .before .before .before .before .before .before .pre, d .heap-record .ensures, d .before .before .before .loop .inv .2)) (λ c. omega arith) (λ c. omega arith)
     (λ c. let d = c .before .before .before in let l = d .before .before .before .loop in
     (omega arith, last-more (d .heap-record .last .1 .1 .0) (l .k), records-more (l .low) (l .k) (l .inv .1) (l .inv .2) (d .heap-record .ensures)))
     (λ c. c .before .loop .inv .2 .kept .long)

@@ -44,9 +44,6 @@ module _ {M : Type 1} (𝓤 : URA M) (H : Heap 𝓤) (A : Atoms 𝓤) (W : Given
   abbrev u : Val
   u = readerVal (d .bytes) (d .at)
 
-  abbrev v : Val
-  v = sliceOf (d .bytes)
-
   abbrev b : Val
   b = sliceOf h
 
@@ -57,10 +54,10 @@ module _ {M : Type 1} (𝓤 : URA M) (H : Heap 𝓤) (A : Atoms 𝓤) (W : Given
   Start = onEntry 𝓤 H A section.signature (κ, (μ, tt)) (q, (p, tt)) (d, (h, tt)) (here .0 .4)
 
   abbrev there : There .Ghost
-  there = (((κ, (μ, tt)), (q, (p, tt)), tt, (d .bytes, (d .at, (h, tt))), (v ∷ [], (cursorVal (d .at) ∷ [], (b ∷ [], tt)))), tt)
+  there = (((κ, (μ, tt)), (q, (p, tt)), tt, (d .bytes, (d .at, (h, tt))), (sliceOf (d .bytes) ∷ [], (cursorVal (d .at) ∷ [], (b ∷ [], tt)))), tt)
 
   abbrev Slice : Fml
-  Slice = Bytes α .own (d .bytes) (v ∷ [])
+  Slice = Bytes α .own (d .bytes) (sliceOf (d .bytes) ∷ [])
 
   -- one copy of the slice goes to the call, the other stays
   to-below : IsCursor (d .at) → length (h .now) ≡ 97 → ent 𝓤 Start (sep 𝓤 (There .pre there) (sem 𝓤 H A Slice))
@@ -69,7 +66,8 @@ module _ {M : Type 1} (𝓤 : URA M) (H : Heap 𝓤) (A : Atoms 𝓤) (W : Given
       move ! (1 ∷ []) $ fsplit ! $ use1 W (‵ Slice ⊛ ‵ Slice) (apart α 𝓤 H A W d u) $ split ! $ move ! (2 ∷ []) $
       owned ! cursor.the-row (Is cursor.the-row) (cursor-makes 𝓤 H A) (d .at) _ is $ fjoin ! $
       -- [cursor and block; the slice; the slice; the tokens]
-      move ! (1 ∷ 0 ∷ []) $ fjoin ! $ move ! (2 ∷ 0 ∷ []) $ use2 W (raw (There .pre there)) (goes 𝓤 H A below.ended (below.clauses 𝓤 H A mem run) W there (factI 𝓤 _ (emp 𝓤) long)) $ frame ! $ done !
+      move ! (1 ∷ 0 ∷ []) $ fjoin ! $ move ! (2 ∷ 0 ∷ []) $ use2 W (raw (There .pre there)) (goes 𝓤 H A below.ended
+      (below.clauses 𝓤 H A mem run) W there (factI 𝓤 _ (emp 𝓤) long)) $ frame ! $ done !
 
   walk : Is (reader.the-row α) d (u ∷ []) → Is (MutSlice (named 1) μ u32) h (b ∷ []) → length (h .now) ≡ 97 → FmC 𝓤 H (W .laws) C
       → Triple 𝓤 (C below-code.name) There → ent 𝓤 Start (WpFn 𝓤 H C Λ code.function (u ∷ b ∷ []) (Here .post here))

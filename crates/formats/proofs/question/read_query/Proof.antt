@@ -12,10 +12,10 @@ use Rattle.formats.proofs.question.read_query.Tie as tie
 
 values-requires : tie.Need-values-requires
 values-requires c κs =
-    let p = c .before .before .before .before .before .before .before .before .before .before .pre .0 in
+    let s = c .before .before .before .before .before .before .before .before .before .before .pre in
     let name = c .before .before .before .before .before .before .below in
-    simp length-set
-    (omega (arith, c .before .before .before .before .before .before .before .before .before .before .pre .1, c .before .before .wide .ensures .0, c .before .before .before .ranged .ensures .within .high, p .each (name .result .value) (name .ensures .small (p .some))))
+    let few = s .0 .each (name .result .value) (name .ensures .small (s .0 .some)) in
+    simp length-set (omega (arith, s .1, c .before .before .wide .ensures .0, c .before .before .before .ranged .ensures .within .high, few))
 
 returns : tie.Need-returns
 unfolding readQuery
@@ -30,7 +30,8 @@ returns c =
       is =
           rw (c .finish .ensures)
           (finish-is 9 (query (aritiesIn (c .before .before .before .before .before .before .before .before .before .before .before .before .before .before .args .rules .now)))
-          (query-fills (p .0) (c .before .before .before .before .before .before .before .before .before .before .below .ensures) (c .before .before .before .before .before .before .before .ranged .ensures) (x .ensures .0) (k .ensures .0) (stored .0) (stored .1) values));
+          (query-fills (p .0) (c .before .before .before .before .before .before .before .before .before .before .below .ensures)
+          (c .before .before .before .before .before .before .before .ranged .ensures) (x .ensures .0) (k .ensures .0) (stored .0) (stored .1) values));
       long = values .kept .long ∙ simp length-set;
     }
 

@@ -48,9 +48,6 @@ module _ {M : Type 1} (𝓤 : URA M) (H : Heap 𝓤) (A : Atoms 𝓤) (W : Given
   abbrev u : Val
   u = readerVal (d .bytes) (d .at)
 
-  abbrev v : Val
-  v = sliceOf (d .bytes)
-
   abbrev here : Here .Ghost
   here = (((κ, tt), (q, tt), tt, (d, (short, tt)), (u ∷ [], (vint w8 short ∷ [], tt))), tt)
 
@@ -58,10 +55,10 @@ module _ {M : Type 1} (𝓤 : URA M) (H : Heap 𝓤) (A : Atoms 𝓤) (W : Given
   Start = onEntry 𝓤 H A word.signature (κ, tt) (q, tt) (d, (short, tt)) (here .0 .4)
 
   abbrev there : There .Ghost
-  there = (((κ, tt), (q, tt), tt, (d .bytes, (d .at, (short, tt))), (v ∷ [], (cursorVal (d .at) ∷ [], (vint w8 short ∷ [], tt)))), tt)
+  there = (((κ, tt), (q, tt), tt, (d .bytes, (d .at, (short, tt))), (sliceOf (d .bytes) ∷ [], (cursorVal (d .at) ∷ [], (vint w8 short ∷ [], tt)))), tt)
 
   abbrev Slice : Fml
-  Slice = Bytes α .own (d .bytes) (v ∷ [])
+  Slice = Bytes α .own (d .bytes) (sliceOf (d .bytes) ∷ [])
 
   -- one copy of the slice goes to the call, the other stays
   to-below : IsCursor (d .at) → ent 𝓤 Start (sep 𝓤 (There .pre there) (sem 𝓤 H A Slice))
@@ -74,11 +71,6 @@ module _ {M : Type 1} (𝓤 : URA M) (H : Heap 𝓤) (A : Atoms 𝓤) (W : Given
 
   abbrev made : Number → Word
   made n = record { bytes = d .bytes; at = n .cursor; value = n .value }
-
-  is-made : (n : Number) (w : Val) → IsBytes α (d .bytes) → Is number.the-row n (w ∷ []) → Is (word-of.the-row α) (made n) (struct-laws.vals (word-of.the-type α) (word-laws.the-laws α) (made n))
-  is-made n w p is =
-      let fields = struct-laws.owed number.the-type number-laws.the-laws n (w ∷ []) is in
-      struct-laws.owes (word-of.the-type α) (word-laws.the-laws α) (made n) (p, (fields .0, (fields .1 .0, tt)))
 
   walk : IsBytes α (d .bytes) → IsCursor (d .at) → Is (reader.the-row α) d (u ∷ []) → short < 2 ^ 8 → FmC 𝓤 H (W .laws) C → Triple 𝓤 (C below-code.name) There
       → ent 𝓤 Start (WpFn 𝓤 H C Λ code.function (u ∷ vint w8 short ∷ []) (Here .post here))
@@ -95,13 +87,14 @@ module _ {M : Type 1} (𝓤 : URA M) (H : Heap 𝓤) (A : Atoms 𝓤) (W : Given
       (λ w. comes 𝓤 H A below.ended (below.clauses 𝓤 H A mem run) there w ! tt
       (λ n ws. Yields (wordReader short) (now (d .bytes)) (d .at) (n .cursor) (n .value)) (λ n ws. id⊢ 𝓤 _) (λ n ws told nis.
       let fields = struct-laws.owed number.the-type number-laws.the-laws n (w ∷ []) nis in
+      let is-word = struct-laws.owes (word-of.the-type α) (word-laws.the-laws α) (made n) (p, (fields .0, (fields .1 .0, tt))) in
       -- [the number; the token; last values; the slice; room for _6; …; _5; …; _4; …; room for _3; …]
       land ! (from ! (stop !)) (init ! 10 refl (struct-laws.lawful number.the-type number-laws.the-laws 𝓤 H A W .typed n _ nis .0)) $
       rewrite ! 10 (λ (z : Val). ‵ (fat fullShare number-laws.mir l₃ 0 z)) (ap only (struct-laws.tells number.the-type number-laws.the-laws n _ nis)) refl $
       sets ! (of-opd ! (part ! 14 0 refl refl refl)) 4 refl refl (tt, typed .1 .0) $
       sets !
       (agg ! (and-then ! (local ! 4 refl) (and-then ! (part ! 10 0 refl refl refl) (and-then ! (part ! 10 1 refl refl refl) (no-more !))))) 16 refl refl
-      (struct-laws.lawful (word-of.the-type α) (word-laws.the-laws α) 𝓤 H A W .typed (made n) _ (is-made n w p nis) .0) $ returns ! (look ! 16 refl) $
+      (struct-laws.lawful (word-of.the-type α) (word-laws.the-laws α) 𝓤 H A W .typed (made n) _ is-word .0) $ returns ! (look ! 16 refl) $
       gone ! 16 refl refl $ gone ! 14 refl refl $ gone ! 12 refl refl $ gone ! 10 refl refl $ gone ! 8 refl refl $ gone ! 6 refl refl $ gone ! 4 refl refl $
       free0 ! $ keep ! (1 ∷ 3 ∷ []) $
       suffices ! _ (leaves 𝓤 H A word.ended (word.clauses 𝓤 H A mem run) here _ W (made n) (tt, (tt, tt)) (factI 𝓤 _ (emp 𝓤) (refl, told))) $

@@ -9,7 +9,8 @@ returns : tie.Need-returns
 returns c =
     let a = c .before .before .before .before .before .before .before .before .before .args in
     rw (c .before .before .before .wide .ensures .0, c .before .before .wide2 .ensures .0, c .before .wide3 .ensures .0, c .wide4 .ensures .0)
-    (word-read (a .short) (c .before .before .before .before .before .before .before .byte .ensures) (c .before .before .before .before .before .before .byte2 .ensures) (c .before .before .before .before .before .byte3 .ensures) (c .before .before .before .before .byte4 .ensures))
+    (word-read (a .short) (c .before .before .before .before .before .before .before .byte .ensures)
+    (c .before .before .before .before .before .before .byte2 .ensures) (c .before .before .before .before .before .byte3 .ensures) (c .before .before .before .before .byte4 .ensures))
 
 pub word-spec : {M : Type 1} → statement M
 word-spec =
