@@ -46,7 +46,7 @@ module _ (space : List ℕ) (line fact positions names : ℕ) (low : 1 ≤ line)
   put-names : ruleAt (putting space line fact positions names) line ≡ names
   put-names = getD-set-same (set (set space (3 * line - 3) fact) (3 * line - 2) positions) (3 * line - 1) names 0 (simp length-set (omega arith))
 
-module _ (table : List ℕ) (at : ℕ) (before : List ℕ) (ready : Lined at before) where
+module _ {table : List ℕ} {at : ℕ} {before : List ℕ} (ready : Lined at before) where
   pub gathered-none : GatheredTo table at before 0 before
   gathered-none = record {
     upto = omega arith;
@@ -57,15 +57,15 @@ module _ (table : List ℕ) (at : ℕ) (before : List ℕ) (ready : Lined at bef
     rest = λ k h. refl;
   }
 
-  pub gathered-all : (i : ℕ) (after : List ℕ) → at < i → GatheredTo table at before i after → Gathered table at before after
-  gathered-all i after l r = record {
+  pub gathered-all : {i : ℕ} {after : List ℕ} → at < i → GatheredTo table at before i after → Gathered table at before after
+  gathered-all l r = record {
     long = r .long;
     facts = λ j h. r .facts j (omega arith);
     positions = λ j h. r .positions j (omega arith);
     names = λ j h. r .names j (omega arith);
   }
 
-  module _ (i : ℕ) (after : List ℕ) (upto : i ≤ at) (r : GatheredTo table at before i after) where
+  module _ {i : ℕ} {after : List ℕ} (upto : i ≤ at) (r : GatheredTo table at before i after) where
     pub gathered-free : markAt after i ≡ 0 → GatheredTo table at before (i + 1) after
     gathered-free z =
         let free : markAt before i ≡ 0 = sym (r .rest (3 * i) (omega arith)) ∙ z in
@@ -84,9 +84,9 @@ module _ (table : List ℕ) (at : ℕ) (before : List ℕ) (ready : Lined at bef
         let same : markAt after i ≡ markAt before i = r .rest (3 * i) (omega arith) in
         (omega (arith, ready .low i upto), omega (arith, ready .low i upto, ready .inside, r .long))
 
-    pub gathered-more : 0 < markAt after i → (written : List ℕ) → written ≡ putting after (markAt after i) (codeAt table i) (positionsIn after i) (namesIn after i)
+    pub gathered-more : 0 < markAt after i → {written : List ℕ} → written ≡ putting after (markAt after i) (codeAt table i) (positionsIn after i) (namesIn after i)
         → GatheredTo table at before (i + 1) written
-    gathered-more z written is = rw is (record {
+    gathered-more z is = rw is (record {
       upto = omega arith;
       long = put-long after line (codeAt table i) (positionsIn after i) (namesIn after i) (omega arith) fits ∙ r .long;
       facts = λ j h n. ⊎-elim (λ (q : j ≡ i). ap (λ (x : ℕ). factAt put (markAt before x)) q ∙ ap (factAt put) (sym same)

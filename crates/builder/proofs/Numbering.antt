@@ -31,7 +31,7 @@ map-same : (f g : ℕ → ℕ) (xs : List ℕ) → ((k : ℕ) → k < length xs 
 map-same f g [] h = refl
 map-same f g (x ∷ xs) h = ap₂ (λ (y : ℕ) (ys : List ℕ). y ∷ ys) (h 0 (omega arith)) (map-same f g xs (λ k l. h (suc k) (omega arith)))
 
-module _ (at : ℕ) (before : List ℕ) (ready : Numberable at before) where
+module _ {at : ℕ} {before : List ℕ} (ready : Numberable at before) where
   pub numbered-none : NumberedTo at before 0 before 0
   unfolding count
   numbered-none = record {
@@ -47,8 +47,8 @@ module _ (at : ℕ) (before : List ℕ) (ready : Numberable at before) where
     names-rest = λ j h. refl;
   }
 
-  pub numbered-all : (i : ℕ) (after : List ℕ) (lines : ℕ) → at < i → NumberedTo at before i after lines → Named at before after lines
-  numbered-all i after lines l r =
+  pub numbered-all : {i : ℕ} {after : List ℕ} {lines : ℕ} → at < i → NumberedTo at before i after lines → Named at before after lines
+  numbered-all {i} l r =
       let e : i ≡ suc at = omega (arith, r .upto) in
       record {
         counted = r .counted ∙ ap (count before) e;
@@ -59,7 +59,7 @@ module _ (at : ℕ) (before : List ℕ) (ready : Numberable at before) where
         names = λ j h. r .names j (omega arith);
       }
 
-  module _ (i : ℕ) (after : List ℕ) (lines : ℕ) (upto : i ≤ at) (r : NumberedTo at before i after lines) where
+  module _ {i : ℕ} {after : List ℕ} {lines : ℕ} (upto : i ≤ at) (r : NumberedTo at before i after lines) where
     -- what the numbers passed say of the called places of place i
     called-lines : (again : List ℕ) → ((j : ℕ) → j < i → markAt again j ≡ markAt after j) → markAt before i ≢ 0
         → map (numberAt again) (calledIn (namesIn before i)) ≡ map (lineOf before) (calledIn (namesIn before i))

@@ -15,33 +15,24 @@ abbrev μ-loop : tie.MeasureT-loop
 μ-loop table at space₀ i₀ space i = suc at - i
 
 loop-holds : tie.Need-loop-holds Inv-loop μ-loop
-loop-holds c = let s = c .before .before in gathered-none (s .args .table .now) (s .args .at) (s .args .space .now) (s .pre .1)
+loop-holds c = gathered-none (c .before .before .pre .1)
 
 put-requires : tie.Need-put-requires Inv-loop μ-loop
 put-requires c κs =
-    let s = c .before .before .before .before .before .before .before .before .before .before .before in
-    let l = c .before .before .before .before .before .before .before .before .loop in
     let taken = c .before .before .before .before .before .if1 .taken in
-    (omega (arith, taken), line-low (s .args .table .now) (s .args .at) (s .args .space .now) (s .pre .1) (l .i) (l .space) (omega arith) (l .inv) (omega (arith, taken)) .1)
+    (omega (arith, taken), line-low (c .before .before .before .before .before .before .before .before .before .before .before .pre .1) (omega arith) (c .before .before .before .before .before .before .before .before .loop .inv) (omega (arith, taken)) .1)
 
 loop-again : tie.Need-loop-again Inv-loop μ-loop
 loop-again c =
-    let s = c .before .before .before .before .before .before in
     let l = c .before .before .before .loop in
-    ⊎-elim
-    (λ w. rw (w .9)
-    (gathered-more (s .args .table .now) (s .args .at) (s .args .space .now) (s .pre .1) (l .i) (l .space) (omega arith) (l .inv) (omega (arith, w .0 .taken)) (w .6 .last .0) (rw (← w .5 .ensures) (w .6 .ensures))))
-    (λ w. rw (w .1) (gathered-free (s .args .table .now) (s .args .at) (s .args .space .now) (s .pre .1) (l .i) (l .space) (omega arith) (l .inv) (omega (arith, w .0 .left))))
-    (c .if1 .came)
+    ⊎-elim (λ w. rw (w .9) (gathered-more (c .before .before .before .before .before .before .pre .1) (omega arith) (l .inv) (omega (arith, w .0 .taken)) (rw (← w .5 .ensures) (w .6 .ensures))))
+    (λ w. rw (w .1) (gathered-free (c .before .before .before .before .before .before .pre .1) (omega arith) (l .inv) (omega (arith, w .0 .left)))) (c .if1 .came)
 
 same-length : tie.Need-same-length Inv-loop μ-loop
 same-length c = c .before .loop .inv .long
 
 returns : tie.Need-returns Inv-loop μ-loop
-returns c =
-    let s = c .before .before .before .before in
-    let l = c .before .loop in
-    gathered-all (s .args .table .now) (s .args .at) (s .args .space .now) (s .pre .1) (l .i) (l .space) (omega arith) (l .inv)
+returns c = gathered-all (c .before .before .before .before .pre .1) (omega arith) (c .before .loop .inv)
 
 pub gather-spec : {M : Type 1} → statement M
 gather-spec =

@@ -16,38 +16,28 @@ abbrev μ-loop : tie.MeasureT-loop
 μ-loop space₀ at lines₀ i₀ space lines i = suc at - i
 
 loop-holds : tie.Need-loop-holds Inv-loop μ-loop
-loop-holds c = numbered-none (c .before .args .at) (c .before .args .space .now) (c .before .pre)
+loop-holds c = numbered-none (c .before .pre)
 
 slice-reshared-read-renamed : tie.Need-slice-reshared-read-renamed Inv-loop μ-loop
 slice-reshared-read-renamed c = simp length-set (omega arith)
 
 renamed-requires : tie.Need-renamed-requires Inv-loop μ-loop
-renamed-requires c κs =
-    let s = c .before .before .before .before .before .before in
-    let l = c .before .before .before .before .loop in
-    called-inside (s .args .at) (s .args .space .now) (s .pre) (l .i) (l .space) (l .lines) (omega arith) (l .inv) (c .before .if1 .taken)
+renamed-requires c κs = called-inside (c .before .before .before .before .before .before .pre) (omega arith) (c .before .before .before .before .loop .inv) (c .before .if1 .taken)
 
 slice-write-space-2 : tie.Need-slice-write-space-2 Inv-loop μ-loop
 slice-write-space-2 c = simp length-set (omega arith)
 
 loop-again : tie.Need-loop-again Inv-loop μ-loop
 loop-again c =
-    let s = c .before .before .before .before .before in
     let l = c .before .before .before .loop in
-    ⊎-elim
-    (λ w. rw (w .3, w .4)
-    (numbered-more (s .args .at) (s .args .space .now) (s .pre) (l .i) (l .space) (l .lines) (omega arith) (l .inv) (w .0 .taken) (w .2 .result) (w .2 .ensures)))
-    (λ w. rw (w .1, w .2) (numbered-free (s .args .at) (s .args .space .now) (s .pre) (l .i) (l .space) (l .lines) (omega arith) (l .inv) (w .0 .left)))
-    (c .if1 .came)
+    ⊎-elim (λ w. rw (w .3, w .4) (numbered-more (c .before .before .before .before .before .pre) (omega arith) (l .inv) (w .0 .taken) (w .2 .result) (w .2 .ensures)))
+    (λ w. rw (w .1, w .2) (numbered-free (c .before .before .before .before .before .pre) (omega arith) (l .inv) (w .0 .left))) (c .if1 .came)
 
 same-length : tie.Need-same-length Inv-loop μ-loop
 same-length c = c .before .loop .inv .long
 
 returns : tie.Need-returns Inv-loop μ-loop
-returns c =
-    let s = c .before .before .before in
-    let l = c .before .loop in
-    numbered-all (s .args .at) (s .args .space .now) (s .pre) (l .i) (l .space) (l .lines) (omega arith) (l .inv)
+returns c = numbered-all (c .before .before .before .pre) (omega arith) (c .before .loop .inv)
 
 pub number-spec : {M : Type 1} → statement M
 number-spec =
