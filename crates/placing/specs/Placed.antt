@@ -7,10 +7,10 @@ use lib.ListN.{length, getD, take}
 use Rattle.semantics.specs.Lists.{_among_, Ascending}
 use Rattle.semantics.specs.Domain.{mostValues}
 use Rattle.semantics.specs.Fact.{position}
-use Rattle.semantics.specs.Placed.{placedRules}
+use Rattle.semantics.specs.Placed.{placedRules, placedHeap}
 use Rattle.words.specs.Entries.{entries}
 use Rattle.domain.specs.Insertion.{Parts}
-use Rattle.block.specs.Layout.{recordPlace, recordAddress, recordSize, recordField, heapIn, positioned, ruleSetIn}
+use Rattle.block.specs.Layout.{recordPlace, recordAddress, recordSize, recordField, heapIn, ruleSetIn}
 
 -- The first n values of the array ascend, and the listed values are among them: then each has one position.
 pub record Placeable (array : List ℕ) (n : ℕ) (values : List ℕ) : Type 0 where
@@ -34,7 +34,7 @@ pub record OnePlaced (domain heap before after : List ℕ) (k : ℕ) : Type 0 wh
 -- The heap in positions.
 pub record HeapPlaced (domain heap records : List ℕ) : Type 0 where
   pub long : length records ≡ 97
-  pub is : heapIn records ≡ map (positioned domain) (heapIn heap)
+  pub is : heapIn records ≡ placedHeap domain (heapIn heap)
 
 -- The query's values in positions; unused places are 0.
 pub record QueryPlaced (domain values positions : List ℕ) : Type 0 where
