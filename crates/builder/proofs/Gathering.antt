@@ -2,7 +2,7 @@
 -- is written at or before its place, and behind the lines before it.
 use mathlib.Core.List.{List}
 use mathlib.Core.Logic.{_≢_, ⊎-elim}
-use mathlib.Core.Path.{_≡_, refl, sym, ap, _∙_}
+use mathlib.Core.Path.{_≡_, sym, ap, _∙_}
 use Prim.Native.Nat.{ℕ, suc, _+_, _-_, _*_, _≤_, _<_}
 use native.Mathlib.Omega.{arith}
 use native.Mathlib.Nat.{eq-or-lt-of-le}
@@ -47,16 +47,6 @@ module _ (space : List ℕ) (line fact positions names : ℕ) (low : 1 ≤ line)
   put-names = getD-set-same (set (set space (3 * line - 3) fact) (3 * line - 2) positions) (3 * line - 1) names 0 (simp length-set (omega arith))
 
 module _ {table : List ℕ} {at : ℕ} {before : List ℕ} (ready : Lined at before) where
-  pub gathered-none : GatheredTo table at before 0 before
-  gathered-none = record {
-    upto = omega arith;
-    long = refl;
-    facts = λ j h. absurd (omega arith);
-    positions = λ j h. absurd (omega arith);
-    names = λ j h. absurd (omega arith);
-    rest = λ k h. refl;
-  }
-
   pub gathered-all : {i : ℕ} {after : List ℕ} → at < i → GatheredTo table at before i after → Gathered table at before after
   gathered-all l r = record {
     long = r .long;

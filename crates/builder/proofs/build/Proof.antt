@@ -12,9 +12,6 @@ plan-requires c κs =
     let e = c .before .before .before .clear-part in
     (lent-cleared (s .pre) (e .kept .0), cleared-marks (s .args .space .now) (e .last .0) (s .args .at) (e .ensures))
 
-number-requires : tie.Need-number-requires
-number-requires c κs = plan-numberable (c .before .before .before .before .before .before .before .before .before .before .before .pre) (c .before .before .before .before .before .before .before .clear-part .kept .0) (c .before .before .before .plan .ensures)
-
 gather-requires : tie.Need-gather-requires
 gather-requires c κs =
     let s = c .before .before .before .before .before .before .before .before .before .before .before .before .before .before .before in
@@ -46,5 +43,5 @@ returns c =
 pub build-spec : {M : Type 1} → statement M
 build-spec =
     tie.close
-    (tie.spec (λ c. search needs) (λ c κs. search needs) plan-requires number-requires gather-requires mul-clear-from clear-from-requires
-    (λ c. search needs) returns)
+    (tie.spec (λ c. search needs) (λ c κs. search needs) plan-requires (λ c κs. search needs) gather-requires mul-clear-from
+    clear-from-requires (λ c. search needs) returns)

@@ -3,7 +3,7 @@
 use Prim.Native.Nat.{suc, _-_}
 use mathlib.Core.Logic.{⊎-elim}
 use native.Mathlib.Omega.{arith}
-use Rattle.builder.proofs.Gathering.{GatheredTo, gathered-none, gathered-all, gathered-free, gathered-more, line-low}
+use Rattle.builder.proofs.Gathering.{GatheredTo, gathered-all, gathered-free, gathered-more, line-low}
 use borrow.Author.Needs.{needs}
 use Rattle.builder.proofs.marked.gather.Statement.{statement}
 use Rattle.builder.proofs.marked.gather.Tie as tie
@@ -13,9 +13,6 @@ Inv-loop table at space₀ i₀ space i = GatheredTo table at space₀ i space
 
 abbrev μ-loop : tie.MeasureT-loop
 μ-loop table at space₀ i₀ space i = suc at - i
-
-loop-holds : tie.Need-loop-holds Inv-loop μ-loop
-loop-holds c = gathered-none (c .before .before .pre .1)
 
 put-requires : tie.Need-put-requires Inv-loop μ-loop
 put-requires c κs =
@@ -28,16 +25,13 @@ loop-again c =
     ⊎-elim (λ w. rw (w .9) (gathered-more (c .before .before .before .before .before .before .pre .1) (omega arith) (l .inv) (omega (arith, w .0 .taken)) (rw (← w .5 .ensures) (w .6 .ensures))))
     (λ w. rw (w .1) (gathered-free (c .before .before .before .before .before .before .pre .1) (omega arith) (l .inv) (omega (arith, w .0 .left)))) (c .if1 .came)
 
-same-length : tie.Need-same-length Inv-loop μ-loop
-same-length c = c .before .loop .inv .long
-
 returns : tie.Need-returns Inv-loop μ-loop
 returns c = gathered-all (c .before .before .before .before .pre .1) (omega arith) (c .before .loop .inv)
 
 pub gather-spec : {M : Type 1} → statement M
 gather-spec =
     tie.close
-    (tie.spec Inv-loop μ-loop loop-holds (λ c. search needs) (λ c. search needs) (λ c. search needs) (λ c. search needs) (λ c. search needs)
+    (tie.spec Inv-loop μ-loop (λ c. search needs) (λ c. search needs) (λ c. search needs) (λ c. search needs) (λ c. search needs)
     (λ c. search needs) (λ c. search needs) (λ c. search needs) (λ c. search needs) (λ c. search needs) (λ c. search needs)
-    (λ c. search needs) (λ c. search needs) (λ c κs. search needs) put-requires (λ c. search needs) (λ c. search needs) loop-again
-    same-length returns)
+    (λ c. search needs) (λ c. search needs) (λ c. search needs) (λ c κs. search needs) put-requires (λ c. search needs) (λ c. search needs)
+    loop-again (λ c. search needs) returns)

@@ -33,9 +33,6 @@ loop-again c =
     ⊎-elim (λ w. rw (w .3, w .4) (numbered-more (c .before .before .before .before .before .pre) (omega arith) (l .inv) (w .0 .taken) (w .2 .result) (w .2 .ensures)))
     (λ w. rw (w .1, w .2) (numbered-free (c .before .before .before .before .before .pre) (omega arith) (l .inv) (w .0 .left))) (c .if1 .came)
 
-same-length : tie.Need-same-length Inv-loop μ-loop
-same-length c = c .before .loop .inv .long
-
 returns : tie.Need-returns Inv-loop μ-loop
 returns c = numbered-all (c .before .before .before .pre) (omega arith) (c .before .loop .inv)
 
@@ -45,4 +42,4 @@ number-spec =
     (tie.spec Inv-loop μ-loop loop-holds (λ c. search needs) (λ c. search needs) (λ c. search needs) (λ c. search needs) (λ c. search needs)
     (λ c. search needs) (λ c. search needs) (λ c. search needs) (λ c. search needs) (λ c. search needs) slice-reshared-read-renamed
     renamed-requires (λ c. search needs) (λ c. search needs) (λ c. search needs) slice-write-space-2 (λ c. search needs) (λ c. search needs)
-    loop-again same-length returns)
+    loop-again (λ c. search needs) returns)
