@@ -15,7 +15,7 @@ use Rattle.semantics.specs.Reader.{Reader, onward, _>>=_, byte, ensure, times}
 use Rattle.semantics.specs.Formats.{named, pure, atom, call, body}
 use Rattle.block.specs.Layout.{ruleIn}
 use Rattle.reader.specs.Cursor.{Yields, rangedByte}
-use Rattle.reader.specs.Layout.{Layout, Kept, Fills, many}
+use Rattle.reader.specs.Layout.{Layout, KeptOutside, Fills, many}
 use Rattle.book.specs.BookLayout.{countLayout, nameLayout, pureLayout, atomLayout, callLayout, Header, aritiesIn, Body, ruleLayout}
 use Rattle.reader.specs.declared.Cursor.{Cursor}
 use Rattle.book.proofs.Heading.{arities-length, arities-kept, arity-few, arity-read}
@@ -32,7 +32,7 @@ module _ (n at : ℕ) {bytes : List ℕ} {c c₁ c₂ c₃ c₄ c₅ : Cursor} {
     (atoms : Fills (many (getD b₃ (at + 3) 0) (atomLayout n)) (at + 32) bytes c₃ b₃ b₄ c₄)
     (count₃ : Fills (countLayout 0 3) (at + 4) bytes c₄ b₄ b₅ c₅) where
   -- up to the calls
-  pub kept₀₅ : Kept (at + 2) (at + 72) b b₅
+  pub kept₀₅ : KeptOutside (at + 2) (at + 72) b b₅
   kept₀₅ =
       let few₁ = count₁ .sized .high in
       let few₂ = count₂ .sized .high in
@@ -43,7 +43,7 @@ module _ (n at : ℕ) {bytes : List ℕ} {c c₁ c₂ c₃ c₄ c₅ : Cursor} {
 
   module _ {c₆ : Cursor} {b₆ : List ℕ} (header : Header b) (low : 16 ≤ at)
       (calls : Fills (many (getD b₅ (at + 4) 0) (callLayout (aritiesIn b₅) n)) (at + 56) bytes c₅ b₅ b₆ c₆) where
-    kept₀₆ : Kept (at + 2) (at + 72) b b₆
+    kept₀₆ : KeptOutside (at + 2) (at + 72) b b₆
     kept₀₆ = kept-both (at + 2) (at + 72) kept₀₅ (calls .kept) (omega (arith, count₃ .sized .high))
 
     -- the counts, the conditions and the atoms lie apart from what is written after them

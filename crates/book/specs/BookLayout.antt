@@ -9,7 +9,7 @@ use Rattle.words.specs.Entries.{entries}
 use Rattle.block.specs.Layout.{termIn, pureIn, atomIn, callIn, ruleIn, ruleSetIn}
 use Rattle.reader.specs.Answer.{resultOf}
 use Rattle.reader.specs.Cursor.{Yields, rangedByte, Within, Names}
-use Rattle.reader.specs.Layout.{Layout, Kept, single, Any}
+use Rattle.reader.specs.Layout.{Layout, KeptOutside, single, Any}
 use Rattle.reader.specs.declared.Cursor.{Cursor}
 use Rattle.reader.specs.declared.Ladder.{Ladder}
 
@@ -62,7 +62,7 @@ ruleLayout arities = record { read = rule arities; held = ruleIn; Sized = RuleSi
 pub record Body (at n : ℕ) (bytes : List ℕ) (c : Cursor) (block block′ : List ℕ) (r : Cursor) : Type 0 where
   pub reads : Yields (body (aritiesIn block) (getD block at 0) (getD block (at + 1) 0) n) bytes c r (ruleIn block′ at)
   pub sized : RuleSized block′ at
-  pub kept : Kept (at + 2) (at + 72) block block′
+  pub kept : KeptOutside (at + 2) (at + 72) block block′
 
 -- What the reader of the whole rule set promises.
 pub record RuleSetFills (bytes : List ℕ) (c : Cursor) (block block′ : List ℕ) (r : Cursor) : Type 0 where

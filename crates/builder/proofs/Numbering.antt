@@ -11,7 +11,7 @@ use Rattle.semantics.specs.Lists.{digits}
 use Rattle.semantics.proofs.Digits.{digitsOf-length}
 use Rattle.ground.specs.Grounded.{calledIn, calledAt}
 use Rattle.builder.specs.Space.{markAt, positionsIn, namesIn, count, lineOf, renamed}
-use Rattle.builder.specs.Steps.{numberAt, Numberable, Named}
+use Rattle.builder.specs.Steps.{numberAt, Numberable, LinesNamed}
 use Rattle.builder.proofs.Counting.{count-marked, count-free, count-below}
 
 -- The places below i are numbered.
@@ -47,7 +47,7 @@ module _ {at : ℕ} {before : List ℕ} (ready : Numberable at before) where
     names-rest = λ j h. refl;
   }
 
-  pub numbered-all : {i : ℕ} {after : List ℕ} {lines : ℕ} → at < i → NumberedTo at before i after lines → Named at before after lines
+  pub numbered-all : {i : ℕ} {after : List ℕ} {lines : ℕ} → at < i → NumberedTo at before i after lines → LinesNamed at before after lines
   numbered-all {i} l r =
       let e : i ≡ suc at = omega (arith, r .upto) in
       record {

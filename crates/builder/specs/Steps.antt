@@ -20,7 +20,7 @@ pub record Numberable (at : ℕ) (space : List ℕ) : Type 0 where
   pub few : at < 65535
 
 -- Each marked place has its line's number, and its third word line numbers for places.
-pub record Named (at : ℕ) (before after : List ℕ) (lines : ℕ) : Type 0 where
+pub record LinesNamed (at : ℕ) (before after : List ℕ) (lines : ℕ) : Type 0 where
   pub counted : lines ≡ count before (suc at)
   pub long : length after ≡ length before
   pub free : (i : ℕ) → i ≤ at → markAt before i ≡ 0 → markAt after i ≡ 0

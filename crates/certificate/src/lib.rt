@@ -23,7 +23,7 @@ ghost use lib.ListN.{length};
 ghost use Rattle.words.specs.Subheap.{Told};
 ghost use Rattle.block.specs.Layout.{recordCount};
 ghost use Rattle.block.specs.Ready.{Represents, Ready, Formed};
-ghost use Rattle.certificate.specs.Line.{InstanceIn, LineIn, Checked};
+ghost use Rattle.certificate.specs.Line.{InstanceIn, LineIn, Judges};
 
 // Whether line k is a ground instance of a rule.
 fn instance_holds(
@@ -66,7 +66,7 @@ fn line_holds(rules: &[u8; 1168], records: &[u8; 97], n: usize, words: &[u64], k
 // Whether the words meet the conditions for lines, and the last line has the fact `last`.
 pub fn check(rules: &[u8; 1168], records: &[u8; 97], n: usize, last: u64, words: &[u64]) -> bool
     requires { ⌜ Represents (now rules) (now records) n ⌝ }
-    ensures { λ (r : Bool). ⌜ Checked (now (rules .entry)) (now (records .entry)) n last (now (words .entry)) r ⌝ }
+    ensures { λ (r : Bool). ⌜ Judges (now (rules .entry)) (now (records .entry)) n last (now (words .entry)) r ⌝ }
 {
     let count = words.len() / 3;
     if count == 0 {

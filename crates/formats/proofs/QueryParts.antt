@@ -11,7 +11,7 @@ use lib.Seq.{getD-set-same, getD-set-other}
 use lib.Dec.{leb, ltb, eqb}
 use Rattle.semantics.specs.Reader.{Reader, onward, _>>=_, byte, ensure, times}
 use Rattle.semantics.specs.Formats.{value, query}
-use Rattle.reader.specs.Cursor.{Yields, rangedByte, byteBelow, Ranged, Below}
+use Rattle.reader.specs.Cursor.{Yields, rangedByte, byteBelow, Ranged, BelowBound}
 use Rattle.reader.specs.Layout.{valueLayout, Fills, many}
 use Rattle.book.specs.BookLayout.{Header, aritiesIn}
 use Rattle.formats.specs.Refusal.{queryIn}
@@ -44,7 +44,7 @@ exact-then {A} m next h k = alike _ same (chain next h k)
     same [] = refl
     same (b ∷ bytes) = rw (exact-test m b bytes)
 
-pub query-fills : {bytes : List ℕ} {c r : Cursor} {name count : Entry} {rules q q′ : List ℕ} {p k : ℕ} → Header rules → Below 9 9 (getD rules 0 0) bytes c name
+pub query-fills : {bytes : List ℕ} {c r : Cursor} {name count : Entry} {rules q q′ : List ℕ} {p k : ℕ} → Header rules → BelowBound 9 9 (getD rules 0 0) bytes c name
     → Ranged 9 9 (getD rules (8 + name .value) 0) (getD rules (8 + name .value) 0) bytes (name .cursor) count
     → p ≡ name .value → k ≡ count .value → getD q 0 0 ≡ p → getD q 1 0 ≡ k → Fills (many k (valueLayout 9)) 2 bytes (count .cursor) q q′ r
     → Yields (query (aritiesIn rules)) bytes c r (queryIn q′)

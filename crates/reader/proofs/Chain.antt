@@ -5,7 +5,7 @@ use mathlib.Core.Path.{_≡_, refl, sym, ap, fun-ext, _∙_}
 use mathlib.Core.List.{List}
 use Prim.Native.Nat.{ℕ}
 use Rattle.semantics.specs.Reader.{Got, got, fault, Reader, onward, _>>=_, give, ensure}
-use Rattle.reader.specs.Cursor.{on, upto, Yields, stopped}
+use Rattle.reader.specs.Cursor.{on, readUpto, Yields, stopped}
 use Rattle.reader.specs.declared.Cursor.{Cursor}
 use Rattle.reader.specs.declared.Cursor.the-variants.{At, Fault}
 
@@ -13,7 +13,7 @@ on-bind : {A B : Type 0} (bytes : List ℕ) (c : Cursor) (read : Reader A) (next
 on-bind bytes (At at) read next = refl
 on-bind bytes (Fault n) read next = refl
 
-upto-bind : {A B : Type 0} (bytes : List ℕ) (c : Cursor) (a : A) (next : A → Reader B) → onward (upto bytes c a) next ≡ on bytes c (next a)
+upto-bind : {A B : Type 0} (bytes : List ℕ) (c : Cursor) (a : A) (next : A → Reader B) → onward (readUpto bytes c a) next ≡ on bytes c (next a)
 upto-bind bytes (At at) a next = refl
 upto-bind bytes (Fault n) a next = refl
 

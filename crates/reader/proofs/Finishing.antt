@@ -4,7 +4,7 @@ use mathlib.Core.List.{List, [], _∷_}
 use Prim.Native.Nat.{ℕ}
 use lib.ListN.{drop}
 use Rattle.semantics.specs.Reader.{Got, got, Reader, all}
-use Rattle.reader.specs.Cursor.{upto, Yields}
+use Rattle.reader.specs.Cursor.{readUpto, Yields}
 use Rattle.reader.specs.Answer.{resultOf, unlessMore, finished}
 use Rattle.reader.specs.declared.Cursor.{Cursor}
 use Rattle.reader.specs.declared.Cursor.the-variants.{At, Fault}
@@ -13,7 +13,7 @@ all-rest : {A : Type 0} (more : ℕ) (a : A) (rest : List ℕ) → all more (got
 all-rest more a [] = refl
 all-rest more a (b ∷ rest) = refl
 
-all-upto : {A : Type 0} (more : ℕ) (bytes : List ℕ) (c : Cursor) (a : A) → all more (upto bytes c a) ≡ resultOf (finished more bytes c) a
+all-upto : {A : Type 0} (more : ℕ) (bytes : List ℕ) (c : Cursor) (a : A) → all more (readUpto bytes c a) ≡ resultOf (finished more bytes c) a
 all-upto more bytes (At at) a = all-rest more a (drop at bytes)
 all-upto more bytes (Fault n) a = refl
 

@@ -8,19 +8,19 @@ use lib.ListN.{length, getD, set, length-set}
 use lib.Seq.{getD-set-same, getD-set-other}
 use Rattle.semantics.specs.Reader.{Reader}
 use Rattle.reader.specs.Cursor.{Yields}
-use Rattle.reader.specs.Layout.{Kept, Fills, single}
+use Rattle.reader.specs.Layout.{KeptOutside, Fills, single}
 use Rattle.reader.specs.declared.Cursor.{Cursor}
 use Rattle.reader.proofs.Chain.{become}
 
-pub kept-none : (from to : ℕ) (b : List ℕ) → Kept from to b b
+pub kept-none : (from to : ℕ) (b : List ℕ) → KeptOutside from to b b
 kept-none from to b = record { long = refl; same = λ i h. refl }
 
-pub kept-set : (b : List ℕ) (at v : ℕ) → Kept at (at + 1) b (set b at v)
+pub kept-set : (b : List ℕ) (at v : ℕ) → KeptOutside at (at + 1) b (set b at v)
 kept-set b at v = record { long = length-set b at v; same = λ i h. getD-set-other b at i v 0 (λ e. ⊎-elim (λ l. omega arith) (λ l. omega arith) h) }
 
 -- two steps, within one range
-pub kept-both : {f t f₁ t₁ : ℕ} {b b₁ b₂ : List ℕ} (from to : ℕ) → Kept f t b b₁ → Kept f₁ t₁ b₁ b₂
-    → (from ≤ f) × (t ≤ to) × (from ≤ f₁) × (t₁ ≤ to) → Kept from to b b₂
+pub kept-both : {f t f₁ t₁ : ℕ} {b b₁ b₂ : List ℕ} (from to : ℕ) → KeptOutside f t b b₁ → KeptOutside f₁ t₁ b₁ b₂
+    → (from ≤ f) × (t ≤ to) × (from ≤ f₁) × (t₁ ≤ to) → KeptOutside from to b b₂
 kept-both from to h k fits = record {
   long = k .long ∙ h .long;
   same = λ i o. ⊎-elim (λ l. k .same i (inl (omega arith)) ∙ h .same i (inl (omega arith))) (λ l. k .same i (inr (omega arith)) ∙ h .same i (inr (omega arith))) o;

@@ -5,7 +5,7 @@ use Prim.Native.Nat.{ℕ}
 use lib.ListN.{drop}
 use lib.Seq.{drop-drop}
 use Rattle.semantics.specs.Reader.{got, byte}
-use Rattle.reader.specs.Cursor.{upto, Yields, entryOf, nextByte}
+use Rattle.reader.specs.Cursor.{readUpto, Yields, entryRead, nextByte}
 use Rattle.reader.specs.Answer.{unlessMore, finished}
 use Rattle.reader.specs.declared.Cursor.{Cursor}
 use Rattle.reader.specs.declared.Cursor.the-variants.{At, Fault}
@@ -17,7 +17,7 @@ use Rattle.reader.specs.declared.Ladder.the-variants.{Accepted, Refused}
 pub next-yields : (short : ℕ) (s : List ℕ) (at : ℕ) → Yields (byte short) s (At at) (nextByte short s at .cursor) (nextByte short s at .value)
 next-yields short s at = record { is = go (drop at s) refl }
   where
-    go : (rest : List ℕ) → drop at s ≡ rest → byte short rest ≡ upto s (entryOf at (byte short rest) .cursor) (entryOf at (byte short rest) .value)
+    go : (rest : List ℕ) → drop at s ≡ rest → byte short rest ≡ readUpto s (entryRead at (byte short rest) .cursor) (entryRead at (byte short rest) .value)
     go [] e = refl
     go (b ∷ rest) e = ap (got b) (sym (ap (drop 1) e) ∙ drop-drop 1 at s)
 
@@ -29,6 +29,6 @@ leaves more (Fault n) = Accepted
 pub at-end : (more : ℕ) (s : List ℕ) {at : ℕ} {c : Cursor} {e : Entry} → c ≡ At at → e ≡ nextByte more s at → leaves more (e .cursor) ≡ finished more s c
 at-end more s {at} place is = rw (place, is) (go (drop at s))
   where
-    go : (rest : List ℕ) → leaves more (entryOf at (byte more rest) .cursor) ≡ unlessMore more rest
+    go : (rest : List ℕ) → leaves more (entryRead at (byte more rest) .cursor) ≡ unlessMore more rest
     go [] = refl
     go (b ∷ rest) = refl

@@ -13,7 +13,7 @@ use Rattle.semantics.specs.Reader.{Reader}
 use Rattle.words.specs.Entries.{tabulate, entries}
 use Rattle.words.proofs.Tabulate.{tabulate-more, tabulate-same}
 use Rattle.reader.specs.Cursor.{Yields}
-use Rattle.reader.specs.Layout.{Layout, Kept, Fills, single, row, many}
+use Rattle.reader.specs.Layout.{Layout, KeptOutside, Fills, single, row, many}
 use Rattle.reader.specs.declared.Cursor.{Cursor}
 use Rattle.reader.proofs.Chain.{become}
 use Rattle.reader.proofs.Counting.{times-none, times-more}
@@ -36,7 +36,7 @@ module _ {A : Type 0} (layout : Layout A) where
   -- one entry more, however the entries are read
   pub row-more : Local layout → {bytes : List ℕ} {c₀ c c′ : Cursor} {b₀ b b′ : List ℕ} {read : Reader (List A)} (read′ : Reader (List A)) (from k : ℕ) → layout .low ≤ from
       → Fills (row k read layout) from bytes c₀ b₀ b c → layout .Sized b′ (from + layout .width * k)
-      → Kept (from + layout .width * k) (from + layout .width * k + layout .width) b b′
+      → KeptOutside (from + layout .width * k) (from + layout .width * k + layout .width) b b′
       → Yields read′ bytes c₀ c′ (tabulate k (λ (i : ℕ). layout .held b (from + layout .width * i)) ++ (layout .held b′ (from + layout .width * k) ∷ []))
       → Fills (row (k + 1) read′ layout) from bytes c₀ b₀ b′ c′
   row-more local {b = b} {b′ = b′} read′ from k l h sized kept e = record {

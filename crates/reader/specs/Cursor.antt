@@ -15,22 +15,22 @@ on bytes (At at) read = read (drop at bytes)
 on bytes (Fault n) read = fault n
 
 -- What was read up to a cursor: a value and the bytes left, or the fault.
-abbrev pub upto : {A : Type 0} → List ℕ → Cursor → A → Got A
-upto bytes (At at) a = got a (drop at bytes)
-upto bytes (Fault n) a = fault n
+abbrev pub readUpto : {A : Type 0} → List ℕ → Cursor → A → Got A
+readUpto bytes (At at) a = got a (drop at bytes)
+readUpto bytes (Fault n) a = fault n
 
 -- From one cursor to the other `read` reads the value, or meets the fault.
 pub record Yields {A : Type 0} (read : Reader A) (bytes : List ℕ) (c c′ : Cursor) (a : A) : Type 0 where
-  pub is : on bytes c read ≡ upto bytes c′ a
+  pub is : on bytes c read ≡ readUpto bytes c′ a
 
 -- What a reader at a place answers: the byte and the place after it, or the fault, with 0 for the value.
-abbrev pub entryOf : ℕ → Got ℕ → Entry
-entryOf at (got b rest) = record { cursor = At (at + 1); value = b }
-entryOf at (fault n) = record { cursor = Fault n; value = 0 }
+abbrev pub entryRead : ℕ → Got ℕ → Entry
+entryRead at (got b rest) = record { cursor = At (at + 1); value = b }
+entryRead at (fault n) = record { cursor = Fault n; value = 0 }
 
 -- The next byte from a place on, as the definition reads it.
 abbrev pub nextByte : (short : ℕ) → List ℕ → ℕ → Entry
-nextByte short bytes at = entryOf at (byte short (drop at bytes))
+nextByte short bytes at = entryRead at (byte short (drop at bytes))
 
 -- A fault at a cursor, unless one was met before.
 abbrev pub stopped : ℕ → Cursor → Cursor
@@ -64,6 +64,6 @@ pub record Ranged (short range least most : ℕ) (bytes : List ℕ) (c : Cursor)
   pub reads : Yields (rangedByte short range least most) bytes c (r .cursor) (r .value)
   pub within : Within least most (r .value)
 
-pub record Below (short off n : ℕ) (bytes : List ℕ) (c : Cursor) (r : Entry) : Type 0 where
+pub record BelowBound (short off n : ℕ) (bytes : List ℕ) (c : Cursor) (r : Entry) : Type 0 where
   pub reads : Yields (byteBelow short off n) bytes c (r .cursor) (r .value)
   pub small : Names n (r .value)

@@ -20,7 +20,7 @@ pub record Layout (A : Type 0) : Type 1 where
   pub low : ℕ
 
 -- A block keeps its length, and all places but those from `from` up to `to`.
-pub record Kept (from to : ℕ) (block block′ : List ℕ) : Type 0 where
+pub record KeptOutside (from to : ℕ) (block block′ : List ℕ) : Type 0 where
   pub long : length block′ ≡ length block
   pub same : (i : ℕ) → (i < from) ⊎ (to ≤ i) → getD block′ i 0 ≡ getD block i 0
 
@@ -28,7 +28,7 @@ pub record Kept (from to : ℕ) (block block′ : List ℕ) : Type 0 where
 pub record Fills {A : Type 0} (layout : Layout A) (at : ℕ) (bytes : List ℕ) (c : Cursor) (block block′ : List ℕ) (r : Cursor) : Type 0 where
   pub reads : Yields (layout .read) bytes c r (layout .held block′ at)
   pub sized : layout .Sized block′ at
-  pub kept : Kept at (at + layout .width) block block′
+  pub kept : KeptOutside at (at + layout .width) block block′
 
 -- An entry of one place: `value` says what the number there stands for, and `In` holds of it.
 abbrev pub single : {A : Type 0} → Reader A → (ℕ → A) → (ℕ → Type 0) → Layout A

@@ -6,7 +6,7 @@ use super::Ladder;
 ghost use mathlib.Core.Path.{_≡_};
 ghost use Prim.Native.Nat.{_≤_};
 ghost use Rattle.semantics.specs.Reader.{byte as byteReader};
-ghost use Rattle.reader.specs.Cursor.{nextByte, Yields, stopped, Ranged, Below};
+ghost use Rattle.reader.specs.Cursor.{nextByte, Yields, stopped, Ranged, BelowBound};
 ghost use Rattle.reader.specs.Answer.{finished};
 
 // The byte at a place and where reading goes on; `short` is the fault where there is none.
@@ -69,7 +69,7 @@ pub fn ranged(s: &[u8], c: Cursor, short: u8, range: u8, least: u8, most: u8) ->
 
 // A byte below `n`.
 pub fn below(s: &[u8], c: Cursor, short: u8, fault: u8, n: u8) -> Entry
-    ensures { λ r. ⌜ Below short fault n (now (s .entry)) c r ⌝ }
+    ensures { λ r. ⌜ BelowBound short fault n (now (s .entry)) c r ⌝ }
 {
     let b = byte(s, c, short);
     let v = b.value;

@@ -2,15 +2,14 @@
 -- domain 0 alone nothing follows, and over 0, 1, with a spare position for b, it does.
 use mathlib.Core.Path.{_≡_, refl, ap, ap₂, _∙_}
 use mathlib.Core.Logic.{⊎-elim}
-use mathlib.Core.List.{List, [], _∷_, _++_, List·Memᴰ·head, List·Memᴰ·tail, List·Memᴰ·cases-cons, List·Memᴰ·not-nil}
+use mathlib.Core.List.{List, [], _∷_, _++_, List·Memᴰ·head, List·Memᴰ·cases-cons, List·Memᴰ·not-nil}
 use Prim.Native.Nat.{ℕ, _+_, _<_}
 use native.Mathlib.Omega.{arith}
 use lib.ListN.{length, getD, length-append}
-use Rattle.semantics.specs.Lists.{_among_, upward}
 use Rattle.semantics.specs.RuleSet.{var, unequal, Pure, Rule, RuleSet, arity}
 use Rattle.semantics.specs.Heap.{Joins}
 use Rattle.semantics.specs.Tree.{Takes}
-use Rattle.semantics.specs.Fact.{position, code, fact}
+use Rattle.semantics.specs.Fact.{fact}
 use Rattle.semantics.specs.Rounds.{Called, Ground}
 use Rattle.semantics.specs.Placed.{upto}
 use Rattle.semantics.proofs.Coding.{getD-in}

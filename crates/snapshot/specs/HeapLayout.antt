@@ -9,7 +9,7 @@ use Rattle.semantics.specs.Formats.{value, address, records, snapshot, readSnap
 use Rattle.block.specs.Layout.{recordIn, heapIn}
 use Rattle.reader.specs.Answer.{resultOf}
 use Rattle.reader.specs.Cursor.{Yields, rangedByte, Within}
-use Rattle.reader.specs.Layout.{Layout, Kept, single, row, Any}
+use Rattle.reader.specs.Layout.{Layout, KeptOutside, single, row, Any}
 use Rattle.reader.specs.declared.Cursor.{Cursor}
 use Rattle.reader.specs.declared.Ladder.{Ladder}
 
@@ -39,7 +39,7 @@ recordsLayout count = row count (records count 0) (recordLayout 0)
 pub record AfterWord {A : Type 0} (layout : Layout A) (at : ℕ) (bytes : List ℕ) (c : Cursor) (v : ℕ) (block block′ : List ℕ) (r : Cursor) : Type 0 where
   pub reads : (c₀ : Cursor) → Yields (word 5) bytes c₀ c v → Yields (layout .read) bytes c₀ r (layout .held block′ at)
   pub sized : layout .Sized block′ at
-  pub kept : Kept at (at + layout .width) block block′
+  pub kept : KeptOutside at (at + layout .width) block block′
 
 -- An address needs no other byte.
 abbrev pub AddressAfter : (low at : ℕ) → Cursor → ℕ → List ℕ → List ℕ → Cursor → Type 0

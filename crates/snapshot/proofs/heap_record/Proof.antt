@@ -19,7 +19,7 @@ use Rattle.reader.proofs.Walk.{whole, sub, look-in, look, init, stop, hop, fld,
 use Rattle.reader.proofs.Walk.{alloc1, alloc0, params1, pass1, pass0, free0, owns, Is, uint-vals, uint-tells, u8, u32, usize, RefT}
 use Rattle.reader.proofs.Walk.{NamedLft, namedLft, MutSlice, slice-vals, shr-slice-tells, shr-slice-lawful, mut-slice-tells}
 use Rattle.reader.proofs.Walk.{mut-slice-lawful, nothing, owned, calls-at, onEntry, Contract, Triple, cited, says, Promise, leaves, comes}
-use Rattle.reader.proofs.Walk.{keeps, local, part, sets, gone, goes}
+use Rattle.reader.proofs.Walk.{keeps, local, part, sets, gone}
 use Rattle.reader.proofs.Cursor as cursor
 use Rattle.reader.proofs.Cursor.Laws as cursor-laws
 use Rattle.reader.proofs.Reader as reader

@@ -23,7 +23,7 @@ use Rattle.reader.proofs.Walk.{frame, done, agg, whole, sub, look-in, look, ini
 use Rattle.reader.proofs.Walk.{no-more, land, returns, enter, alloc1, alloc0, params1, pass1, pass0, free0, owns, Is, uint-makes, u8, u32}
 use Rattle.reader.proofs.Walk.{RefT, NamedLft, namedLft, MutSlice, slice-vals, shr-slice-tells, shr-slice-lawful, mut-slice-tells}
 use Rattle.reader.proofs.Walk.{mut-slice-lawful, nothing, owned, calls-at, onEntry, Contract, Triple, cited, says, Promise, leaves, comes}
-use Rattle.reader.proofs.Walk.{keeps, local, part, sets, gone, goes}
+use Rattle.reader.proofs.Walk.{keeps, local, part, sets, gone}
 use Rattle.reader.proofs.Cursor as cursor
 use Rattle.reader.proofs.Cursor.Laws as cursor-laws
 use Rattle.reader.proofs.Ladder as ladder

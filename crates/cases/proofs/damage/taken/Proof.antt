@@ -1,6 +1,5 @@
 -- The words end within those that there are.
 use mathlib.Core.Path.{sym}
-use native.Mathlib.Omega.{arith}
 use lib.Seq.{length-take-le}
 use borrow.Author.Needs.{needs}
 use Rattle.cases.proofs.damage.taken.Statement.{statement}

@@ -18,7 +18,7 @@ use Rattle.reader.proofs.Walk.{tablesOf, Given, ‵, raw, _⊛_, _$_, _
 use Rattle.reader.proofs.Walk.{suffices, frame, done, agg, look, init, stop, from, of-opd, and-then, no-more, land, returns, enter}
 use Rattle.reader.proofs.Walk.{alloc1, alloc0, params1, pass1, pass0, gone, free0, owns, Is, uint-vals, uint-tells, uint-makes, u8}
 use Rattle.reader.proofs.Walk.{u32, NamedLft, namedLft, nothing, owned, only, calls-at, onEntry, Contract, Triple, cited, Promise}
-use Rattle.reader.proofs.Walk.{leaves, comes, keeps, local, part, sets, goes}
+use Rattle.reader.proofs.Walk.{leaves, comes, keeps, local, part, sets}
 use Rattle.reader.proofs.Cursor as cursor
 use Rattle.reader.proofs.Number as number
 use Rattle.reader.proofs.Number.Laws as number-laws
