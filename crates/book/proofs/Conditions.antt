@@ -1,24 +1,17 @@
 -- Pure conditions, points-to atoms and calls: their parts, read one after the other into one place of the block, make the whole.
-use mathlib.Core.Path.{_≡_, sym, ap, _∙_}
-use mathlib.Core.Logic.{inl}
-use mathlib.Core.List.{List, map}
+use mathlib.Core.{Path._≡_, Path.sym, Path.ap, Path._∙_, Logic.inl, List.List, List.map}
 use Prim.Native.Nat.{ℕ, _+_, _*_, _≤_, _<_}
 use native.Mathlib.Omega.{arith}
 use lib.ListN.{getD}
-use Rattle.semantics.specs.Reader.{times}
-use Rattle.semantics.specs.Formats.{term}
+use Rattle.semantics.specs.{Reader.times, Formats.term}
 use Rattle.words.proofs.Tabulate.{tabulate-map}
 use Rattle.words.specs.Entries.{tabulate, entries}
 use Rattle.block.specs.Layout.{termIn}
 use Rattle.reader.specs.Layout.{Fills, many}
 use Rattle.book.specs.BookLayout.{countLayout, nameLayout, termLayout, pureLayout, atomLayout, Header, aritiesIn, callLayout}
 use Rattle.reader.specs.declared.Cursor.{Cursor}
-use Rattle.book.proofs.Heading.{arities-length, name-small, arity-few, arity-read}
-use Rattle.reader.proofs.Chain.{chain, done, turn}
-use Rattle.reader.proofs.Counting.{counted-read}
-use Rattle.reader.proofs.Keep.{kept-both}
-use Rattle.reader.proofs.Section.{ones}
-use Rattle.book.proofs.Naming.{kind-read}
+use Rattle.book.proofs.{Heading.arities-length, Heading.name-small, Heading.arity-few, Heading.arity-read, Naming.kind-read}
+use Rattle.reader.proofs.{Chain.chain, Chain.done, Chain.turn, Counting.counted-read, Keep.kept-both, Section.ones}
 
 pub pure-fills : (n at : ℕ) {bytes : List ℕ} {c c₁ c₂ c₃ : Cursor} {b b₁ b₂ b₃ : List ℕ} → Fills (nameLayout 2) at bytes c b b₁ c₁
     → Fills (termLayout n) (at + 1) bytes c₁ b₁ b₂ c₂ → Fills (termLayout n) (at + 2) bytes c₂ b₂ b₃ c₃ → Fills (pureLayout n) at bytes c b b₃ c₃

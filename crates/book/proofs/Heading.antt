@@ -1,8 +1,6 @@
 -- The arities stand below place 16: what is written from there on leaves them alone. What a block says of predicate p is what the list of
 -- its arities says.
-use mathlib.Core.Path.{_≡_, sym, _∙_}
-use mathlib.Core.Logic.{inl}
-use mathlib.Core.List.{List}
+use mathlib.Core.{Path._≡_, Path.sym, Path._∙_, Logic.inl, List.List}
 use Prim.Native.Nat.{ℕ, _+_, _≤_, _<_}
 use native.Mathlib.Omega.{arith}
 use lib.ListN.{length, getD}

@@ -1,13 +1,11 @@
 -- Each kind of entry looks at no place but its own and, for calls and rules, the arities below 16.
-use mathlib.Core.Path.{_≡_}
-use mathlib.Core.List.{List}
+use mathlib.Core.{Path._≡_, List.List}
 use Prim.Native.Nat.{ℕ, _+_, _<_}
 use native.Mathlib.Omega.{arith}
 use lib.ListN.{getD}
 use Rattle.semantics.specs.Formats.{term}
 use Rattle.block.specs.Layout.{termIn}
-use Rattle.reader.specs.Cursor.{rangedByte, Within}
-use Rattle.reader.specs.Layout.{Any}
+use Rattle.reader.specs.{Cursor.rangedByte, Cursor.Within, Layout.Any}
 use Rattle.book.specs.BookLayout.{countLayout, termLayout, pureLayout, atomLayout, callLayout, ruleLayout}
 use Rattle.reader.proofs.Section.{Local, single-local, many-local, entries-same}
 

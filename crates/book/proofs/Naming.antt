@@ -1,12 +1,10 @@
 -- Bytes that name something: terms and kinds, as read and as they lie in a block.
-use mathlib.Core.Path.{_≡_, refl}
-use mathlib.Core.List.{List, [], _∷_}
+use mathlib.Core.{Path._≡_, Path.refl, List.List, List.[], List._∷_}
 use Prim.Native.Nat.{ℕ, zero, suc, _≤_, _<_}
 use native.Mathlib.Omega.{arith}
 use lib.Dec.{ltb}
 use borrow.Author.Tests.{lt-ltb, le-ltb, eq-eqb, ne-eqb}
-use Rattle.semantics.specs.RuleSet.{Term, var, fixed}
-use Rattle.semantics.specs.Reader.{onward, give, byte}
+use Rattle.semantics.specs.{RuleSet.Term, RuleSet.var, RuleSet.fixed, Reader.onward, Reader.give, Reader.byte}
 use Rattle.semantics.specs.Formats.{named, termOf, term, kind}
 use Rattle.block.specs.Layout.{termIn, kindIn}
 use Rattle.reader.specs.Cursor.{Yields, stopped}

@@ -1,29 +1,18 @@
 -- A rule: its parts, read one after the other into its place of the block, make the rule. What is written later lies apart from what was
 -- written before, so every part is still there at the end.
-use mathlib.Core.Path.{_≡_, refl, sym, ap, _∙_}
-use mathlib.Core.Logic.{inl, inr}
-use mathlib.Core.Bool.{Bool, true, false}
-use mathlib.Core.List.{List, [], _∷_}
+use mathlib.Core.{Path._≡_, Path.refl, Path.sym, Path.ap, Path._∙_, Logic.inl, Logic.inr, Bool.Bool, Bool.true, Bool.false, List.List, List.[], List._∷_}
 use Prim.Native.Nat.{ℕ, _+_, _-_, _≤_}
-use native.Mathlib.Decide.{decLe}
+use native.Mathlib.{Decide.decLe, Omega.arith}
 use borrow.Author.Tests.{le-leb, lt-leb}
-use lib.Dec.{leb}
-use native.Mathlib.Omega.{arith}
-use lib.ListN.{getD}
-use Rattle.semantics.specs.RuleSet.{Rule}
-use Rattle.semantics.specs.Reader.{Reader, onward, _>>=_, byte, ensure, times}
+use lib.{Dec.leb, ListN.getD}
+use Rattle.semantics.specs.{RuleSet.Rule, Reader.Reader, Reader.onward, Reader._>>=_, Reader.byte, Reader.ensure, Reader.times}
 use Rattle.semantics.specs.Formats.{named, pure, atom, call, body}
 use Rattle.block.specs.Layout.{ruleIn}
-use Rattle.reader.specs.Cursor.{Yields, rangedByte}
-use Rattle.reader.specs.Layout.{Layout, KeptOutside, Fills, many}
+use Rattle.reader.specs.{Cursor.Yields, Cursor.rangedByte, Layout.Layout, Layout.KeptOutside, Layout.Fills, Layout.many}
 use Rattle.book.specs.BookLayout.{countLayout, nameLayout, pureLayout, atomLayout, callLayout, Header, aritiesIn, Body, ruleLayout}
 use Rattle.reader.specs.declared.Cursor.{Cursor}
-use Rattle.book.proofs.Heading.{arities-length, arities-kept, arity-few, arity-read}
-use Rattle.reader.proofs.Chain.{chain, done, become, alike, turn}
-use Rattle.reader.proofs.Counting.{counted-read}
-use Rattle.reader.proofs.Keep.{kept-both}
-use Rattle.book.proofs.Locals.{pure-local, atom-local}
-use Rattle.reader.proofs.Section.{many-local}
+use Rattle.book.proofs.{Heading.arities-length, Heading.arities-kept, Heading.arity-few, Heading.arity-read, Locals.pure-local, Locals.atom-local}
+use Rattle.reader.proofs.{Chain.chain, Chain.done, Chain.become, Chain.alike, Chain.turn, Counting.counted-read, Keep.kept-both, Section.many-local}
 
 module _ (n at : ℕ) {bytes : List ℕ} {c c₁ c₂ c₃ c₄ c₅ : Cursor} {b b₁ b₂ b₃ b₄ b₅ : List ℕ}
     (count₁ : Fills (countLayout 0 8) (at + 2) bytes c b b₁ c₁)

@@ -1,24 +1,17 @@
 -- The whole rule set: the arities and the rules, each after its count.
-use mathlib.Core.Path.{_≡_, refl, sym, ap, fun-ext, _∙_}
-use mathlib.Core.Logic.{inl, inr}
-use mathlib.Core.List.{List, [], _∷_}
+use mathlib.Core.{Path._≡_, Path.refl, Path.sym, Path.ap, Path.fun-ext, Path._∙_, Logic.inl, Logic.inr, List.List, List.[], List._∷_}
 use Prim.Native.Nat.{ℕ, _*_, _<_}
 use native.Mathlib.Omega.{arith}
 use borrow.Author.Tests.{le-leb}
-use lib.ListN.{getD}
-use lib.Dec.{leb}
-use Rattle.semantics.specs.Reader.{Reader, onward, ensure, times}
-use Rattle.semantics.specs.Formats.{arguments, predicates, rule}
+use lib.{ListN.getD, Dec.leb}
+use Rattle.semantics.specs.{Reader.Reader, Reader.onward, Reader.ensure, Reader.times, Formats.arguments, Formats.predicates, Formats.rule}
 use Rattle.words.specs.Entries.{entries}
 use Rattle.block.specs.Layout.{ruleSetIn}
-use Rattle.reader.specs.Cursor.{Yields, rangedByte}
-use Rattle.reader.specs.Layout.{Fills, many}
+use Rattle.reader.specs.{Cursor.Yields, Cursor.rangedByte, Layout.Fills, Layout.many}
 use Rattle.book.specs.BookLayout.{countLayout, ruleLayout, Header, aritiesIn, RuleSetFills}
 use Rattle.reader.specs.declared.Cursor.{Cursor}
 use Rattle.book.proofs.Heading.{arities-same, header-same, arities-kept, header-kept}
-use Rattle.reader.proofs.Chain.{assoc, chain, done, become, alike, turn}
-use Rattle.reader.proofs.Counting.{counted-read}
-use Rattle.reader.proofs.Section.{ones}
+use Rattle.reader.proofs.{Chain.assoc, Chain.chain, Chain.done, Chain.become, Chain.alike, Chain.turn, Counting.counted-read, Section.ones}
 
 -- a number of arguments is a count of at most 4
 is-arguments : rangedByte 1 2 0 4 ≡ arguments

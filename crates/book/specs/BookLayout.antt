@@ -1,17 +1,14 @@
 -- How the entries of a book are read and where they lie in a block.
-use mathlib.Core.List.{List}
-use mathlib.Core.Path.{_≡_}
+use mathlib.Core.{List.List, Path._≡_}
 use Prim.Native.Nat.{ℕ, _+_, _*_, _≤_, _<_}
 use lib.ListN.{length, getD}
 use Rattle.semantics.specs.RuleSet.{Term, Pure, PointsTo, Call, Rule}
 use Rattle.semantics.specs.Formats.{named, term, pure, atom, call, body, rule, ruleSet, readRuleSet}
 use Rattle.words.specs.Entries.{entries}
 use Rattle.block.specs.Layout.{termIn, pureIn, atomIn, callIn, ruleIn, ruleSetIn}
-use Rattle.reader.specs.Answer.{resultOf}
-use Rattle.reader.specs.Cursor.{Yields, rangedByte, Within, Names}
+use Rattle.reader.specs.{Answer.resultOf, Cursor.Yields, Cursor.rangedByte, Cursor.Within, Cursor.Names}
 use Rattle.reader.specs.Layout.{Layout, KeptOutside, single, Any}
-use Rattle.reader.specs.declared.Cursor.{Cursor}
-use Rattle.reader.specs.declared.Ladder.{Ladder}
+use Rattle.reader.specs.declared.{Cursor.Cursor, Ladder.Ladder}
 
 -- A count in its range, a byte that names one of n, and a term.
 abbrev pub countLayout : (least most : ℕ) → Layout ℕ

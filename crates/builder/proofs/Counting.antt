@@ -1,14 +1,9 @@
 -- Counting the marked places: each gets the next number, so the numbers rise with the places and none is left out.
-use mathlib.Core.List.{List}
-use mathlib.Core.Logic.{_≢_, ⊎-elim}
-use mathlib.Core.Path.{_≡_, refl}
+use mathlib.Core.{List.List, Logic._≢_, Logic.⊎-elim, Path._≡_, Path.refl, Bool.true, Bool.false}
 use Prim.Native.Nat.{ℕ, zero, suc, _≤_, _<_}
-use native.Mathlib.Omega.{arith}
-use native.Mathlib.Decide.{ℕ-discrete, decLt}
-use native.Mathlib.Nat.{eq-or-lt-of-le}
+use native.Mathlib.{Omega.arith, Decide.ℕ-discrete, Decide.decLt, Nat.eq-or-lt-of-le}
 use borrow.Author.Tests.{eq-eqb, ne-eqb, lt-ltb, le-ltb}
 use lib.Dec.{ltb}
-use mathlib.Core.Bool.{true, false}
 use Rattle.builder.specs.Space.{markAt, count}
 
 module _ (space : List ℕ) where

@@ -1,17 +1,12 @@
 -- Gathering place by place: the lines of the places passed stand where their numbers say, and the other places are as they were. A line
 -- is written at or before its place, and behind the lines before it.
-use mathlib.Core.List.{List}
-use mathlib.Core.Logic.{_≢_, ⊎-elim}
-use mathlib.Core.Path.{_≡_, sym, ap, _∙_}
+use mathlib.Core.{List.List, Logic._≢_, Logic.⊎-elim, Path._≡_, Path.sym, Path.ap, Path._∙_}
 use Prim.Native.Nat.{ℕ, suc, _+_, _-_, _*_, _≤_, _<_}
-use native.Mathlib.Omega.{arith}
-use native.Mathlib.Nat.{eq-or-lt-of-le}
-use lib.ListN.{length, getD, set, length-set}
-use lib.Seq.{getD-set-same, getD-set-other}
+use native.Mathlib.{Omega.arith, Nat.eq-or-lt-of-le}
+use lib.{ListN.length, ListN.getD, ListN.set, ListN.length-set, Seq.getD-set-same, Seq.getD-set-other}
 use Rattle.semantics.specs.Certificate.{factAt, positionsAt, ruleAt}
 use Rattle.table.specs.Layered.{codeAt}
-use Rattle.builder.specs.Space.{markAt, positionsIn, namesIn}
-use Rattle.builder.specs.Steps.{putting, Lined, Gathered}
+use Rattle.builder.specs.{Space.markAt, Space.positionsIn, Space.namesIn, Steps.putting, Steps.Lined, Steps.Gathered}
 
 -- The lines of the places below i are written.
 pub record GatheredTo (table : List ℕ) (at : ℕ) (before : List ℕ) (i : ℕ) (after : List ℕ) : Type 0 where

@@ -1,22 +1,14 @@
 -- Marked places with a ground each, numbered and written line by line, are a certificate of the engine's kind. A line's number is one more
 -- than the count of marked places before it, so called lines are earlier, every line is some place's, and no fact stands twice.
 use mathlib.Core.List.{List, [], _∷_, _++_, map, List·Memᴰ·head, List·Memᴰ·tail, Memᴰ·map, Memᴰ·of-map, Memᴰ·cast}
-use mathlib.Core.Logic.{_≢_, ⊎-elim}
-use mathlib.Core.Path.{_≡_, refl, sym, ap, ap₂, _∙_}
+use mathlib.Core.{Logic._≢_, Logic.⊎-elim, Path._≡_, Path.refl, Path.sym, Path.ap, Path.ap₂, Path._∙_}
 use Prim.Native.Nat.{ℕ, zero, suc, _+_, _-_, _*_, _%_, _≤_, _<_}
-use native.Mathlib.Omega.{arith}
-use native.Mathlib.Decide.{decLt}
-use native.Mathlib.Nat.{eq-or-lt-of-le}
+use native.Mathlib.{Omega.arith, Decide.decLt, Nat.eq-or-lt-of-le}
 use lib.ListN.{length, getD, length-map}
-use Rattle.semantics.specs.Lists.{_among_, digits, zeros}
-use Rattle.semantics.proofs.FixedPoint.{same-ground}
-use Rattle.semantics.specs.RuleSet.{RuleSet, WellFormed}
-use Rattle.semantics.specs.Heap.{Heap}
-use Rattle.semantics.specs.Fact.{fact}
-use Rattle.semantics.specs.Certificate.{factAt, positionsAt, ruleAt, LineHolds}
-use Rattle.semantics.specs.Contract.{padded}
+use Rattle.semantics.specs.{Lists._among_, Lists.digits, Lists.zeros, RuleSet.RuleSet, RuleSet.WellFormed, Heap.Heap, Fact.fact}
+use Rattle.semantics.proofs.{FixedPoint.same-ground, Taking.called-length}
+use Rattle.semantics.specs.{Certificate.factAt, Certificate.positionsAt, Certificate.ruleAt, Certificate.LineHolds, Contract.padded}
 use Rattle.words.proofs.Digits.{digits-padded}
-use Rattle.semantics.proofs.Taking.{called-length}
 use Rattle.table.specs.Layered.{codeAt, roundAt}
 use Rattle.ground.specs.Grounded.{calledIn, calledAt, Grounded}
 use Rattle.builder.specs.Space.{markAt, positionsIn, namesIn, Earlier, Planned, count, lineOf, renamed}

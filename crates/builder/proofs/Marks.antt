@@ -1,7 +1,5 @@
 -- Marks and line numbers by place, as the code indexes them.
-use mathlib.Core.List.{List, [], _∷_, map}
-use mathlib.Core.Logic.{_≢_}
-use mathlib.Core.Path.{_≡_, refl, ap}
+use mathlib.Core.{List.List, List.[], List._∷_, List.map, Logic._≢_, Path._≡_, Path.refl, Path.ap}
 use Prim.Native.Nat.{ℕ, zero, suc, _+_, _-_, _*_, _%_, _<_}
 use native.Mathlib.Omega.{arith}
 use lib.ListN.{getD, set}

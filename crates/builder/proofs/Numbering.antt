@@ -1,12 +1,9 @@
 -- Numbering place by place: those passed have their lines' numbers, and third words that name lines; the others are as they were.
-use mathlib.Core.List.{List, [], _∷_, map}
-use mathlib.Core.Logic.{_≢_, _⊎_, inl, inr, ⊎-elim}
+use mathlib.Core.{List.List, List.[], List._∷_, List.map, Logic._≢_, Logic._⊎_, Logic.inl, Logic.inr, Logic.⊎-elim}
 use mathlib.Core.Path.{_≡_, refl, sym, ap, ap₂, _∙_}
 use Prim.Native.Nat.{ℕ, suc, _+_, _*_, _/_, _%_, _≤_, _<_}
-use native.Mathlib.Omega.{arith}
-use native.Mathlib.Nat.{eq-or-lt-of-le, mod-eq-of-lt}
-use lib.ListN.{length, getD, set, length-set}
-use lib.Seq.{getD-set-same, getD-set-other}
+use native.Mathlib.{Omega.arith, Nat.eq-or-lt-of-le, Nat.mod-eq-of-lt}
+use lib.{ListN.length, ListN.getD, ListN.set, ListN.length-set, Seq.getD-set-same, Seq.getD-set-other}
 use Rattle.semantics.specs.Lists.{digits}
 use Rattle.semantics.proofs.Digits.{digitsOf-length}
 use Rattle.ground.specs.Grounded.{calledIn, calledAt}

@@ -1,18 +1,11 @@
 -- Planning downwards from the query's place: the places passed that are marked have their lines, what they call is marked and before
 -- them, and every marked place but the query's is called by one that was passed.
-use mathlib.Core.List.{List}
-use mathlib.Core.Logic.{_⊎_, inl, inr, ⊎-elim, _≢_}
-use mathlib.Core.Path.{_≡_, refl, sym, ap, _∙_}
+use mathlib.Core.{List.List, Logic._⊎_, Logic.inl, Logic.inr, Logic.⊎-elim, Logic._≢_, Path._≡_, Path.refl, Path.sym, Path.ap, Path._∙_}
 use Prim.Native.Nat.{ℕ, zero, suc, _+_, _*_, _≤_, _<_}
-use native.Mathlib.Omega.{arith}
-use native.Mathlib.Decide.{ℕ-discrete}
-use native.Mathlib.Nat.{eq-or-lt-of-le}
-use lib.ListN.{length, getD, set, length-set}
-use lib.Seq.{getD-set-same, getD-set-other}
+use native.Mathlib.{Omega.arith, Decide.ℕ-discrete, Nat.eq-or-lt-of-le}
+use lib.{ListN.length, ListN.getD, ListN.set, ListN.length-set, Seq.getD-set-same, Seq.getD-set-other}
 use Rattle.ground.specs.Grounded.{calledAt}
-use Rattle.builder.specs.Space.{markAt, positionsIn, namesIn}
-use Rattle.builder.specs.Steps.{marking}
-use Rattle.builder.specs.Plan.{GroundedAt, visiting, Visited, Plans}
+use Rattle.builder.specs.{Space.markAt, Space.positionsIn, Space.namesIn, Steps.marking, Plan.GroundedAt, Plan.visiting, Plan.Visited, Plan.Plans}
 
 -- three stores of marks, one after the other
 pub three-marks : (start : List ℕ) {a b c : List ℕ} (i j k : ℕ) → a ≡ marking start i → b ≡ marking a j → c ≡ marking b k → c ≡ marking (marking (marking start i) j) k

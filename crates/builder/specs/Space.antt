@@ -1,12 +1,8 @@
 -- The unfolding space while a certificate is built: three words for each place of the table. The first is the place's mark, and later its
 -- line's number; the second and the third are its line's, with places counted from 1 where line numbers come.
-use mathlib.Core.Bool.{true, false}
-use mathlib.Core.List.{List, map}
-use mathlib.Core.Logic.{_⊎_, _≢_}
-use mathlib.Core.Path.{_≡_}
+use mathlib.Core.{Bool.true, Bool.false, List.List, List.map, Logic._⊎_, Logic._≢_, Path._≡_}
 use Prim.Native.Nat.{ℕ, zero, suc, _+_, _*_, _%_, _≤_, _<_}
-use lib.ListN.{getD}
-use lib.Dec.{eqb}
+use lib.{ListN.getD, Dec.eqb}
 use Rattle.semantics.specs.Lists.{digits}
 use Rattle.table.specs.Layered.{roundAt}
 use Rattle.ground.specs.Grounded.{calledIn, calledAt}

@@ -1,7 +1,5 @@
 -- What the steps of the builder do to the space: marking, numbering, gathering.
-use mathlib.Core.List.{List}
-use mathlib.Core.Logic.{_≢_}
-use mathlib.Core.Path.{_≡_}
+use mathlib.Core.{List.List, Logic._≢_, Path._≡_}
 use Prim.Native.Nat.{ℕ, zero, suc, _+_, _-_, _*_, _%_, _≤_, _<_}
 use lib.ListN.{length, set}
 use Rattle.semantics.specs.Certificate.{factAt, positionsAt, ruleAt}

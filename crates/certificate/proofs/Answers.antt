@@ -1,7 +1,5 @@
 -- A test's answer: by a comparison of two numbers, and the same to an equivalent question.
-use mathlib.Core.Bool.{Bool, not}
-use mathlib.Core.Path.{_≡_}
-use mathlib.Core.Logic.{_≢_}
+use mathlib.Core.{Bool.Bool, Bool.not, Path._≡_, Logic._≢_}
 use Prim.Native.Nat.{ℕ}
 use lib.Dec.{eqb}
 use borrow.Author.Tests.{eqb-true, eqb-false, not-true, not-false}

@@ -1,11 +1,9 @@
 -- The disjoint join of subheaps, one after the other onto those used so far, is the join of the definition; and joined subheaps stay small.
-use mathlib.Core.Path.{_≡_, refl}
-use mathlib.Core.List.{List, [], _∷_, List·Memᴰ·head, List·Memᴰ·tail}
+use mathlib.Core.{Path._≡_, Path.refl, List.List, List.[], List._∷_, List.List·Memᴰ·head, List.List·Memᴰ·tail}
 use Prim.Native.Nat.{ℕ, _+_, _<_}
 use native.Mathlib.Omega.{arith}
 use lib.Bits.{bitAnd, and-zero-l, and-zero-r, or-lt, or-disjoint}
-use Rattle.semantics.specs.Heap.{Joins}
-use Rattle.semantics.specs.Lists.{_among_}
+use Rattle.semantics.specs.{Heap.Joins, Lists._among_}
 use Rattle.words.proofs.Disjoint.{apart-split, apart-join}
 
 -- The subheaps, joined one by one to those used, make up the whole.

@@ -1,23 +1,11 @@
 -- What the loops over a rule's calls and points-to atoms pass: what is left of a join after the first call or atom, and at the end.
-use mathlib.Core.Path.{_≡_, sym, ap₂, _∙_}
-use mathlib.Core.List.{List, [], _∷_}
-use mathlib.Core.Logic.{_↔_}
+use mathlib.Core.{Path._≡_, Path.sym, Path.ap₂, Path._∙_, List.List, List.[], List._∷_, Logic._↔_}
 use Prim.Native.Nat.{ℕ, _+_, _/_, _%_, _^_, _≤_, _<_}
-use native.Mathlib.Omega.{arith}
-use native.Mathlib.Numerals.{add-one}
-use native.Mathlib.Decide.{decLt}
-use lib.ListN.{take, drop, drop-of-length-le}
-use lib.Seq.{drop-cons}
-use lib.Dec.{eqb}
-use lib.Bits.{bitAnd}
-use Rattle.semantics.specs.Certificate.{factAt, positionsAt}
-use Rattle.semantics.specs.Fact.{code, partOf}
-use Rattle.semantics.specs.Heap.{Record}
-use Rattle.semantics.specs.RuleSet.{Call}
-use Rattle.semantics.specs.Tree.{valuesOf, asked}
-use Rattle.words.specs.Entries.{tabulate}
+use native.Mathlib.{Omega.arith, Numerals.add-one, Decide.decLt}
+use lib.{ListN.take, ListN.drop, ListN.drop-of-length-le, Seq.drop-cons, Dec.eqb, Bits.bitAnd}
+use Rattle.semantics.specs.{Certificate.factAt, Certificate.positionsAt, Fact.code, Fact.partOf, Heap.Record, RuleSet.Call, Tree.valuesOf, Tree.asked}
+use Rattle.words.specs.{Entries.tabulate, Subheap.Told}
 use Rattle.block.specs.Layout.{atomIn, callIn, ruleIn, atomCount, callCount, atomPlace, callPlace, headIn, headArity, recordCount}
-use Rattle.words.specs.Subheap.{Told}
 use Rattle.words.proofs.Tabulate.{tabulate-length, tabulate-at}
 use Rattle.certificate.specs.Line.{givenBy, FirstRecord, FoundRecord, CallsLine, CallsJoin, AtomsJoin}
 use Rattle.certificate.proofs.Answers.{told-equal}

@@ -1,23 +1,14 @@
 -- What a line's words say, read by the block's terms: the position of a term, fields of a record against terms, positions in a word, and a
 -- fact from its four positions.
-use mathlib.Core.Bool.{Bool, not}
-use mathlib.Core.Path.{_≡_, refl, sym, ap, ap₂, _∙_}
-use mathlib.Core.List.{List, [], _∷_, map}
-use mathlib.Core.Logic.{_≢_, _↔_}
+use mathlib.Core.{Bool.Bool, Bool.not, Path._≡_, Path.refl, Path.sym, Path.ap, Path.ap₂, Path._∙_, List.List, List.[], List._∷_, List.map, Logic._≢_, Logic._↔_}
 use Prim.Native.Nat.{ℕ, _+_, _-_, _≤_, _<_}
 use native.Mathlib.Omega.{arith}
-use lib.ListN.{length, getD, take, length-take, List·getD-eq-default}
-use lib.Seq.{getD-take}
-use lib.Dec.{eqb}
+use lib.{ListN.length, ListN.getD, ListN.take, ListN.length-take, ListN.List·getD-eq-default, Seq.getD-take, Dec.eqb}
 use borrow.Author.Tests.{eq-eqb, ne-eqb, lt-ltb, le-ltb}
-use Rattle.semantics.specs.Fact.{code}
-use Rattle.semantics.specs.Heap.{Record}
-use Rattle.semantics.specs.Lists.{digits}
-use Rattle.semantics.specs.Tree.{valueOf, valuesOf, Compare, Meets, asked}
+use Rattle.semantics.specs.{Fact.code, Heap.Record, Lists.digits, Tree.valueOf, Tree.valuesOf, Tree.Compare, Tree.Meets, Tree.asked}
 use Rattle.semantics.proofs.Digits.{digitsOf-length}
-use Rattle.words.specs.Entries.{tabulate, entries}
+use Rattle.words.specs.{Entries.tabulate, Entries.entries, Subheap.Told}
 use Rattle.block.specs.Layout.{termIn, kindIn, pureIn, atomIn, recordIn, purePlace, pureKind, pureLeft, pureRight, atomPlace, atomAddress, atomSize, atomField, recordPlace, recordAddress, recordSize, recordField}
-use Rattle.words.specs.Subheap.{Told}
 use Rattle.words.proofs.Tabulate.{tabulate-length, tabulate-at, tabulate-same, tabulate-map}
 use Rattle.certificate.specs.Line.{givenBy}
 use Rattle.certificate.proofs.Answers.{told-as, told-equal, told-unequal}

@@ -1,14 +1,11 @@
 -- Bytes and the words they make: one word more, and the words that bytes decide.
-use mathlib.Core.Path.{_≡_, refl, sym, ap, ap₂, _∙_}
-use mathlib.Core.Logic.{⊎-elim}
+use mathlib.Core.{Path._≡_, Path.refl, Path.sym, Path.ap, Path.ap₂, Path._∙_, Logic.⊎-elim}
 use mathlib.Core.List.{List, [], _∷_, _++_, append-assoc, append-nil, List·Memᴰ·cases-cons, List·Memᴰ·not-nil, List·Memᴰ·append-cases, List·Memᴰ·eq-of-singleton}
 use Prim.Native.Nat.{ℕ, suc, _+_, _*_, _^_, _≤_, _<_}
-use native.Mathlib.Omega.{arith}
-use native.Mathlib.Decide.{decLt}
+use native.Mathlib.{Omega.arith, Decide.decLt}
 use lib.ListN.{length, getD, take, drop, set, length-set, length-take, List·getD-eq-default}
 use lib.Seq.{slice, drop-at, length-take-le, slice-cons, length-slice, take-suc-set, take-add, getD-drop, getD-take}
-use Rattle.semantics.specs.Lists.{_among_, digits, digitsOf}
-use Rattle.semantics.specs.Contract.{bytesOf}
+use Rattle.semantics.specs.{Lists._among_, Lists.digits, Lists.digitsOf, Contract.bytesOf}
 use Rattle.semantics.proofs.Digits.{digits-below, digits-back}
 use Rattle.desk.specs.Words.{Loads}
 

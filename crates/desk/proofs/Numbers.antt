@@ -1,11 +1,9 @@
 -- From what the check says of the loaded words to what its entry says of the bytes.
-use mathlib.Core.Path.{_≡_, ap}
-use mathlib.Core.List.{List}
+use mathlib.Core.{Path._≡_, Path.ap, List.List}
 use Prim.Native.Nat.{ℕ, _+_, _*_, _≤_}
 use native.Mathlib.Omega.{arith}
 use lib.ListN.{length, take}
-use Rattle.semantics.specs.Served.{Served}
-use Rattle.semantics.specs.Contract.{Checks, Checked, DeskChecks, DeskChecked}
+use Rattle.semantics.specs.{Served.Served, Contract.Checks, Contract.Checked, Contract.DeskChecks, Contract.DeskChecked}
 use Rattle.semantics.specs.declared.CheckReply.{CheckReply}
 use Rattle.desk.specs.Words.{Loaded}
 use Rattle.desk.proofs.Takes.{desk-takes}

@@ -1,15 +1,9 @@
 -- What the check's entry takes is what the check takes of the loaded words.
-use mathlib.Core.Path.{_≡_, refl, sym, ap, ap₂, _∙_}
-use mathlib.Core.Logic.{_↔_}
-use mathlib.Core.List.{List, [], _∷_, List·Memᴰ·head, List·Memᴰ·tail}
+use mathlib.Core.{Path._≡_, Path.refl, Path.sym, Path.ap, Path.ap₂, Path._∙_, Logic._↔_, List.List, List.[], List._∷_, List.List·Memᴰ·head, List.List·Memᴰ·tail}
 use Prim.Native.Nat.{ℕ, zero, suc, _*_, _^_, _/_, _<_}
-use native.Mathlib.Omega.{arith}
-use native.Mathlib.Nat.{pow-suc}
-use lib.ListN.{length, take, drop, length-append}
-use lib.Seq.{take-all, take-at, drop-at}
-use Rattle.semantics.specs.Lists.{_among_, digits, digitsOf}
-use Rattle.semantics.specs.Formats.{Input}
-use Rattle.semantics.specs.Contract.{CertificateInput, DeskTakes, bytesOf}
+use native.Mathlib.{Omega.arith, Nat.pow-suc}
+use lib.{ListN.length, ListN.take, ListN.drop, ListN.length-append, Seq.take-all, Seq.take-at, Seq.drop-at}
+use Rattle.semantics.specs.{Lists._among_, Lists.digits, Lists.digitsOf, Formats.Input, Contract.CertificateInput, Contract.DeskTakes, Contract.bytesOf}
 use Rattle.semantics.proofs.Digits.{digitsOf-length}
 use Rattle.desk.specs.Words.{Loaded}
 

@@ -1,10 +1,8 @@
 -- Words that come as bytes.
-use mathlib.Core.List.{List}
-use mathlib.Core.Path.{_≡_}
+use mathlib.Core.{List.List, Path._≡_}
 use Prim.Native.Nat.{ℕ, _*_, _≤_, _<_}
 use lib.ListN.{length, take}
-use Rattle.semantics.specs.Lists.{_among_}
-use Rattle.semantics.specs.Contract.{bytesOf}
+use Rattle.semantics.specs.{Lists._among_, Contract.bytesOf}
 
 -- The first n words are those of the first 8 n bytes.
 pub record Loads (bytes words : List ℕ) (n : ℕ) : Type 0 where

@@ -1,13 +1,9 @@
 -- The values that the heap's block holds, by their places, and how many the blocks hold.
-use mathlib.Core.Path.{_≡_, refl, _∙_}
-use mathlib.Core.List.{List, _∷_, Memᴰ·append-right}
+use mathlib.Core.{Path._≡_, Path.refl, Path._∙_, List.List, List._∷_, List.Memᴰ·append-right}
 use Prim.Native.Nat.{ℕ, suc, _+_, _-_, _≤_, _<_}
 use native.Mathlib.Omega.{arith}
-use lib.ListN.{length, getD, take, drop, length-drop, drop-of-length-le, take-append-drop}
-use lib.Seq.{drop-cons}
-use Rattle.semantics.specs.Lists.{_among_}
-use Rattle.semantics.specs.Heap.{Record, blank, recordValues, heapValues, WellFormedHeap}
-use Rattle.semantics.specs.RuleSet.{WellFormed}
+use lib.{ListN.length, ListN.getD, ListN.take, ListN.drop, ListN.length-drop, ListN.drop-of-length-le, ListN.take-append-drop, Seq.drop-cons}
+use Rattle.semantics.specs.{Lists._among_, Heap.Record, Heap.blank, Heap.recordValues, Heap.heapValues, Heap.WellFormedHeap, RuleSet.WellFormed}
 use Rattle.semantics.specs.Domain.{mostValues}
 use Rattle.semantics.proofs.DomainFacts.{heap-length, heap-values}
 use Rattle.words.specs.Entries.{entries}

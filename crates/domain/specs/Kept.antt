@@ -1,11 +1,8 @@
 -- What the crate promises: the domain for given values in a lent array.
-use mathlib.Core.List.{List}
-use mathlib.Core.Path.{_≡_}
+use mathlib.Core.{List.List, Path._≡_}
 use Prim.Native.Nat.{ℕ, _≤_}
 use lib.ListN.{length, take}
-use Rattle.semantics.specs.RuleSet.{RuleSet}
-use Rattle.semantics.specs.Heap.{Heap}
-use Rattle.semantics.specs.Domain.{mostValues, domain}
+use Rattle.semantics.specs.{RuleSet.RuleSet, Heap.Heap, Domain.mostValues, Domain.domain}
 
 -- The first n values of the array are the domain for the given values.
 pub record Kept (ruleSet : RuleSet) (heap : Heap) (given array : List ℕ) (n : ℕ) : Type 0 where

@@ -1,11 +1,8 @@
 -- The values that a heap and a list of values give, and the spares among the other numbers.
-use mathlib.Core.List.{List, _∷_, _++_}
-use mathlib.Core.Path.{_≡_}
+use mathlib.Core.{List.List, List._∷_, List._++_, Path._≡_}
 use Prim.Native.Nat.{ℕ, _+_, _≤_, _<_}
 use lib.ListN.{length, take}
-use Rattle.semantics.specs.Lists.{_among_}
-use Rattle.semantics.specs.Heap.{WellFormedHeap, heapValues}
-use Rattle.semantics.specs.Domain.{mostValues, spares, ascending}
+use Rattle.semantics.specs.{Lists._among_, Heap.WellFormedHeap, Heap.heapValues, Domain.mostValues, Domain.spares, Domain.ascending}
 use Rattle.block.specs.Layout.{heapIn}
 
 -- What the list and the heap give: all good values but nil.

@@ -1,16 +1,11 @@
 -- What the answers of the engine and of the check say, number by number.
-use mathlib.Core.Path.{_≡_, sym, ap}
-use mathlib.Core.Logic.{_↔_, _≢_, _⊎_, ⊎-elim, inl, inr}
-use mathlib.Core.List.{List}
+use mathlib.Core.{Path._≡_, Path.sym, Path.ap, Logic._↔_, Logic._≢_, Logic._⊎_, Logic.⊎-elim, Logic.inl, Logic.inr, List.List}
 use Prim.Native.Nat.{ℕ, _*_, _≤_, _<_}
-use native.Mathlib.Omega.{arith}
-use native.Mathlib.Decide.{decLt}
+use native.Mathlib.{Omega.arith, Decide.decLt}
 use lib.ListN.{length}
-use Rattle.semantics.specs.Lists.{zeros}
-use Rattle.semantics.specs.Formats.{Input}
+use Rattle.semantics.specs.{Lists.zeros, Formats.Input}
 use Rattle.semantics.specs.Contract.{FitsInput, CertificateInput, TrimmedInput, CompletedInput, FilledInput, MoreFactsThan, padded, refusalReply, Answers, Checks}
-use Rattle.semantics.specs.declared.Reply.{Reply}
-use Rattle.semantics.specs.declared.CheckReply.{CheckReply}
+use Rattle.semantics.specs.declared.{Reply.Reply, CheckReply.CheckReply}
 use Rattle.semantics.proofs.Reached.{more-facts}
 
 -- ---- the engine

@@ -1,12 +1,8 @@
 -- From what the reader says to the contracts: the ways out of every public call whose input is book, snapshot and question.
-use mathlib.Core.Path.{_≡_}
-use mathlib.Core.List.{List}
+use mathlib.Core.{Path._≡_, List.List}
 use Prim.Native.Nat.{ℕ}
 use lib.ListN.{length}
-use Rattle.semantics.specs.Reader.{Result}
-use Rattle.semantics.specs.Refusals.{memorySize}
-use Rattle.semantics.specs.Formats.{Input, ladder, WellFormedInput}
-use Rattle.semantics.specs.Served.{Served}
+use Rattle.semantics.specs.{Reader.Result, Refusals.memorySize, Formats.Input, Formats.ladder, Formats.WellFormedInput, Served.Served}
 use Rattle.semantics.proofs.FormatsFacts.{ladder-read}
 use Rattle.block.specs.Layout.{inputIn}
 use Rattle.formats.specs.Refusal.{Read}

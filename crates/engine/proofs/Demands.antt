@@ -1,20 +1,12 @@
 -- The three demands, as statements about every outcome that the contracts of `decide` and `check` allow. The functions of this crate are
 -- proved to meet these contracts for all bytes, lengths and lent memory, and to end.
-use mathlib.Core.Path.{_≡_, sym, ap, _∙_}
-use mathlib.Core.Logic.{_↔_, _≢_, ⊎-elim}
-use mathlib.Core.List.{List}
+use mathlib.Core.{Path._≡_, Path.sym, Path.ap, Path._∙_, Logic._↔_, Logic._≢_, Logic.⊎-elim, List.List}
 use Prim.Native.Nat.{ℕ, _*_, _≤_}
 use native.Mathlib.Omega.{arith}
 use lib.ListN.{length, take}
-use Rattle.semantics.specs.Lists.{zeros}
-use Rattle.semantics.specs.Heap.{wholeOf}
-use Rattle.semantics.specs.Reader.{accepted, refused}
-use Rattle.semantics.specs.Formats.{Input, ladder}
-use Rattle.semantics.specs.Certificate.{Opened}
-use Rattle.semantics.specs.Served.{Served}
+use Rattle.semantics.specs.{Lists.zeros, Heap.wholeOf, Reader.accepted, Reader.refused, Formats.Input, Formats.ladder, Certificate.Opened, Served.Served}
 use Rattle.semantics.specs.Contract.{domainOf, FitsInput, CertificateInput, TrimmedInput, FilledInput, MoreFactsThan, Lent, padded, refusalReply, Refuses, Answers, Decided, Checked}
-use Rattle.semantics.specs.declared.Reply.{Reply}
-use Rattle.semantics.specs.declared.CheckReply.{CheckReply}
+use Rattle.semantics.specs.declared.{Reply.Reply, CheckReply.CheckReply}
 use Rattle.semantics.proofs.ServedFacts.{served-answered, unread-exactly, unlent-exactly, answered-exactly}
 use Rattle.semantics.proofs.ContractFacts.{one-ladder}
 use Rattle.semantics.proofs.Theorems as Theorems

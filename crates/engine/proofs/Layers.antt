@@ -1,22 +1,13 @@
 -- The table after the rounds: its facts come round by round, each from those of earlier rounds, as the builder of certificates asks.
-use mathlib.Core.Path.{sym, _∙_}
-use mathlib.Core.Logic.{_≢_}
-use mathlib.Core.List.{List}
+use mathlib.Core.{Path.sym, Path._∙_, Logic._≢_, List.List}
 use Prim.Native.Nat.{ℕ, _<_}
 use native.Mathlib.Omega.{arith}
-use lib.ListN.{getD, take}
-use lib.Seq.{getD-take, length-take-le}
-use Rattle.semantics.specs.Lists.{_among_, Ascending}
-use Rattle.semantics.specs.RuleSet.{RuleSet}
-use Rattle.semantics.specs.Heap.{Heap}
-use Rattle.semantics.proofs.FixedPoint.{follows-more}
-use Rattle.table.specs.Table.{factsIn, Tagged}
-use Rattle.table.specs.Layered.{codeAt, EarlierFact, Layered}
-use Rattle.table.proofs.Places.{place-of, differ}
-use Rattle.table.proofs.Passes.{facts-length}
-use Rattle.table.proofs.Rounds.{fact-at}
+use lib.{ListN.getD, ListN.take, Seq.getD-take, Seq.length-take-le}
+use Rattle.semantics.specs.{Lists._among_, Lists.Ascending, RuleSet.RuleSet, Heap.Heap}
+use Rattle.semantics.proofs.{FixedPoint.follows-more, Coding.ascending-at}
+use Rattle.table.specs.{Table.factsIn, Table.Tagged, Layered.codeAt, Layered.EarlierFact, Layered.Layered}
+use Rattle.table.proofs.{Places.place-of, Places.differ, Passes.facts-length, Rounds.fact-at}
 use Rattle.fixpoint.specs.Fixpoint.{Rests}
-use Rattle.semantics.proofs.Coding.{ascending-at}
 
 module _ (ruleSet : RuleSet) (heap : Heap) (domain table : List ℕ) (old facts rounds : ℕ) (tagged : Tagged table old facts rounds)
     (ascending : Ascending (take facts table)) where

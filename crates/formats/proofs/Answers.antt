@@ -1,10 +1,8 @@
 -- For callers of `read`: what each answer says of the ladder.
-use mathlib.Core.Path.{_≡_}
-use mathlib.Core.List.{List}
+use mathlib.Core.{Path._≡_, List.List}
 use Prim.Native.Nat.{ℕ}
 use lib.ListN.{length}
-use Rattle.semantics.specs.Reader.{accepted, refused}
-use Rattle.semantics.specs.Formats.{ladder}
+use Rattle.semantics.specs.{Reader.accepted, Reader.refused, Formats.ladder}
 use Rattle.block.specs.Layout.{inputIn}
 use Rattle.formats.specs.Refusal.{Read}
 use Rattle.reader.specs.declared.Ladder.the-variants.{Accepted, Refused}

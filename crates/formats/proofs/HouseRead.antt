@@ -1,8 +1,6 @@
 -- The house book is read into the three shapes.
 use mathlib.Core.Path.{_≡_, refl}
-use Rattle.semantics.specs.Reader.{accepted, times, counted}
-use Rattle.semantics.specs.Formats.{readRuleSet}
-use Rattle.semantics.specs.Contract.{house}
+use Rattle.semantics.specs.{Reader.accepted, Reader.times, Reader.counted, Formats.readRuleSet, Contract.house}
 use Rattle.formats.specs.House.{shapes}
 
 pub house-read : readRuleSet house ≡ accepted shapes

@@ -1,25 +1,16 @@
 -- A query: the predicate's name, a count that must be its arity, and as many values.
-use mathlib.Core.Path.{_≡_, refl, sym, ap, _∙_}
-use mathlib.Core.Logic.{inl}
-use mathlib.Core.List.{List, [], _∷_}
+use mathlib.Core.{Path._≡_, Path.refl, Path.sym, Path.ap, Path._∙_, Logic.inl, List.List, List.[], List._∷_}
 use Prim.Native.Nat.{ℕ, _+_, _<_}
-use native.Mathlib.Decide.{decLt}
-use native.Mathlib.Omega.{arith}
+use native.Mathlib.{Decide.decLt, Omega.arith}
 use borrow.Author.Tests.{le-leb, lt-leb, eq-eqb, ne-eqb}
-use lib.ListN.{length, getD, set, length-set}
-use lib.Seq.{getD-set-same, getD-set-other}
-use lib.Dec.{leb, ltb, eqb}
-use Rattle.semantics.specs.Reader.{Reader, onward, _>>=_, byte, ensure, times}
-use Rattle.semantics.specs.Formats.{value, query}
-use Rattle.reader.specs.Cursor.{Yields, rangedByte, byteBelow, Ranged, BelowBound}
-use Rattle.reader.specs.Layout.{valueLayout, Fills, many}
+use lib.{ListN.length, ListN.getD, ListN.set, ListN.length-set, Seq.getD-set-same, Seq.getD-set-other, Dec.leb, Dec.ltb, Dec.eqb}
+use Rattle.semantics.specs.{Reader.Reader, Reader.onward, Reader._>>=_, Reader.byte, Reader.ensure, Reader.times, Formats.value, Formats.query}
+use Rattle.reader.specs.{Cursor.Yields, Cursor.rangedByte, Cursor.byteBelow, Cursor.Ranged, Cursor.BelowBound, Layout.valueLayout, Layout.Fills, Layout.many}
 use Rattle.book.specs.BookLayout.{Header, aritiesIn}
 use Rattle.formats.specs.Refusal.{queryIn}
-use Rattle.reader.specs.declared.Cursor.{Cursor}
-use Rattle.reader.specs.declared.Entry.{Entry}
-use Rattle.reader.proofs.Chain.{assoc, chain, done, alike, turn}
+use Rattle.reader.specs.declared.{Cursor.Cursor, Entry.Entry}
+use Rattle.reader.proofs.{Chain.assoc, Chain.chain, Chain.done, Chain.alike, Chain.turn, Section.ones}
 use Rattle.book.proofs.Heading.{arities-length, arity-at}
-use Rattle.reader.proofs.Section.{ones}
 
 below-then : {A : Type 0} {bytes : List ℕ} {c c₁ c₂ : Cursor} {v : ℕ} {a : A} (short off n : ℕ) (next : ℕ → Reader A)
     → Yields (byteBelow short off n) bytes c c₁ v → Yields (next v) bytes c₁ c₂ a

@@ -1,6 +1,5 @@
 -- What `read` and the reader of a question promise.
-use mathlib.Core.List.{List}
-use mathlib.Core.Path.{_≡_}
+use mathlib.Core.{List.List, Path._≡_}
 use Prim.Native.Nat.{ℕ}
 use lib.ListN.{length, getD}
 use Rattle.semantics.specs.Formats.{Query, readQuery, ladder}

@@ -1,13 +1,8 @@
 -- Values replaced by their positions in the domain: a record, the heap, the query, the rules.
-use mathlib.Core.List.{List, map}
-use mathlib.Core.Path.{_≡_}
-use mathlib.Core.Logic.{_⊎_}
+use mathlib.Core.{List.List, List.map, Path._≡_, Logic._⊎_}
 use Prim.Native.Nat.{ℕ, _+_, _-_, _≤_, _<_}
 use lib.ListN.{length, getD, take}
-use Rattle.semantics.specs.Lists.{_among_, Ascending}
-use Rattle.semantics.specs.Domain.{mostValues}
-use Rattle.semantics.specs.Fact.{position}
-use Rattle.semantics.specs.Placed.{placedRules, placedHeap}
+use Rattle.semantics.specs.{Lists._among_, Lists.Ascending, Domain.mostValues, Fact.position, Placed.placedRules, Placed.placedHeap}
 use Rattle.words.specs.Entries.{entries}
 use Rattle.domain.specs.Insertion.{Parts}
 use Rattle.block.specs.Layout.{recordPlace, recordAddress, recordSize, recordField, heapIn, ruleSetIn}

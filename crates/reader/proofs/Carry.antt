@@ -1,18 +1,14 @@
 -- The reader in a walk: it is taken apart into the slice and the cursor, and put together again. A slice that is read is had twice, since it
 -- is Copy, and a cursor owns nothing that a fact of it does not give.
-use mathlib.Core.Path.{_≡_, ap}
-use mathlib.Core.List.{List, [], _∷_}
+use mathlib.Core.{Path._≡_, Path.ap, List.List, List.[], List._∷_}
 use Prim.Native.Nat.{ℕ}
-use lib.ListN.{length}
-use lib.Dec.{T as Holds}
+use lib.{ListN.length, Dec.T as Holds}
 use mir.Val.{WT, hasTy, vstruct, vcons, vnil}
-use denote.RattleType.{RattleType}
-use denote.Laws.{Makes}
+use denote.{RattleType.RattleType, Laws.Makes}
 use denote.Struct.Rest.{all-own, own-open, own-shut}
 use denote.Enum.Laws as enum-laws
 use denote.Struct.Laws as struct-laws
-use Rattle.reader.specs.declared.Cursor.{Cursor}
-use Rattle.reader.specs.declared.Reader.{Reader}
+use Rattle.reader.specs.declared.{Cursor.Cursor, Reader.Reader}
 use Rattle.reader.proofs.Walk.{URA, Val, ent, sep, Heap, Atoms, sem, Given, ‵, _⊛_, given, _$_, _∵_, !, qed, by, move, drop, use1}
 use Rattle.reader.proofs.Walk.{split, learn, fsplit, fjoin, done, Is, u8, RefT, NamedLft, sliceVal, ShrSlice, shr-slice-copy}
 use Rattle.reader.proofs.Walk.{nothing, owned, only}

@@ -1,8 +1,6 @@
 -- Readers one after the other, from cursor to cursor: what each yields makes what the chain yields. A fault on the way stays to the end,
 -- since reading on from a fault is that fault.
-use mathlib.Core.Bool.{Bool, true, false}
-use mathlib.Core.Path.{_≡_, refl, sym, ap, fun-ext, _∙_}
-use mathlib.Core.List.{List}
+use mathlib.Core.{Bool.Bool, Bool.true, Bool.false, Path._≡_, Path.refl, Path.sym, Path.ap, Path.fun-ext, Path._∙_, List.List}
 use Prim.Native.Nat.{ℕ}
 use Rattle.semantics.specs.Reader.{Got, got, fault, Reader, onward, _>>=_, give, ensure}
 use Rattle.reader.specs.Cursor.{on, readUpto, Yields, stopped}

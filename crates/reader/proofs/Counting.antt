@@ -1,7 +1,6 @@
 -- A count, then that many entries: one entry more is read after the others. The reader of an entry may look at what the entry before left
 -- behind, as the reader of an address does; `times` is the case where nothing is left behind.
-use mathlib.Core.Path.{_≡_, refl, sym, ap, _∙_}
-use mathlib.Core.List.{List, [], _∷_, _++_}
+use mathlib.Core.{Path._≡_, Path.refl, Path.sym, Path.ap, Path._∙_, List.List, List.[], List._∷_, List._++_}
 use Prim.Native.Nat.{ℕ, zero, suc}
 use native.Mathlib.Omega.{arith}
 use borrow.Author.Tests.{le-leb}

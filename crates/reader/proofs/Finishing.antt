@@ -1,11 +1,9 @@
 -- At the end of the reading: what the cursor says of the bytes that are left is what the definition says.
-use mathlib.Core.Path.{_≡_, refl, ap, _∙_}
-use mathlib.Core.List.{List, [], _∷_}
+use mathlib.Core.{Path._≡_, Path.refl, Path.ap, Path._∙_, List.List, List.[], List._∷_}
 use Prim.Native.Nat.{ℕ}
 use lib.ListN.{drop}
 use Rattle.semantics.specs.Reader.{Got, got, Reader, all}
-use Rattle.reader.specs.Cursor.{readUpto, Yields}
-use Rattle.reader.specs.Answer.{resultOf, unlessMore, finished}
+use Rattle.reader.specs.{Cursor.readUpto, Cursor.Yields, Answer.resultOf, Answer.unlessMore, Answer.finished}
 use Rattle.reader.specs.declared.Cursor.{Cursor}
 use Rattle.reader.specs.declared.Cursor.the-variants.{At, Fault}
 

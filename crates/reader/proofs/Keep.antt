@@ -1,14 +1,10 @@
 -- What a block keeps: after a store, after several steps, and for an entry that lies apart from what was written.
-use mathlib.Core.Path.{_≡_, refl, sym, ap, _∙_}
-use mathlib.Core.Logic.{_⊎_, inl, inr, ⊎-elim}
-use mathlib.Core.List.{List}
+use mathlib.Core.{Path._≡_, Path.refl, Path.sym, Path.ap, Path._∙_, Logic._⊎_, Logic.inl, Logic.inr, Logic.⊎-elim, List.List}
 use Prim.Native.Nat.{ℕ, _+_, _≤_, _<_}
 use native.Mathlib.Omega.{arith}
-use lib.ListN.{length, getD, set, length-set}
-use lib.Seq.{getD-set-same, getD-set-other}
+use lib.{ListN.length, ListN.getD, ListN.set, ListN.length-set, Seq.getD-set-same, Seq.getD-set-other}
 use Rattle.semantics.specs.Reader.{Reader}
-use Rattle.reader.specs.Cursor.{Yields}
-use Rattle.reader.specs.Layout.{KeptOutside, Fills, single}
+use Rattle.reader.specs.{Cursor.Yields, Layout.KeptOutside, Layout.Fills, Layout.single}
 use Rattle.reader.specs.declared.Cursor.{Cursor}
 use Rattle.reader.proofs.Chain.{become}
 

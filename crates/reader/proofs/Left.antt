@@ -1,16 +1,11 @@
 -- The bytes left at a place, and what the answer of a reader there says of them.
-use mathlib.Core.Path.{_≡_, refl, sym, ap, _∙_}
-use mathlib.Core.List.{List, [], _∷_}
+use mathlib.Core.{Path._≡_, Path.refl, Path.sym, Path.ap, Path._∙_, List.List, List.[], List._∷_}
 use Prim.Native.Nat.{ℕ}
-use lib.ListN.{drop}
-use lib.Seq.{drop-drop}
+use lib.{ListN.drop, Seq.drop-drop}
 use Rattle.semantics.specs.Reader.{got, byte}
-use Rattle.reader.specs.Cursor.{readUpto, Yields, entryRead, nextByte}
-use Rattle.reader.specs.Answer.{unlessMore, finished}
-use Rattle.reader.specs.declared.Cursor.{Cursor}
+use Rattle.reader.specs.{Cursor.readUpto, Cursor.Yields, Cursor.entryRead, Cursor.nextByte, Answer.unlessMore, Answer.finished}
+use Rattle.reader.specs.declared.{Cursor.Cursor, Entry.Entry, Ladder.Ladder}
 use Rattle.reader.specs.declared.Cursor.the-variants.{At, Fault}
-use Rattle.reader.specs.declared.Entry.{Entry}
-use Rattle.reader.specs.declared.Ladder.{Ladder}
 use Rattle.reader.specs.declared.Ladder.the-variants.{Accepted, Refused}
 
 -- From the place to the one after it a byte is read.

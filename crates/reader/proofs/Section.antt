@@ -1,23 +1,15 @@
 -- Entries side by side in a block. An entry that lies apart from what is written stays what it is, so that a loop that fills entry after
 -- entry keeps what it promises: it has filled `many k` of them.
-use mathlib.Core.Path.{_≡_, sym, ap, _∙_}
-use mathlib.Core.Logic.{inl}
-use mathlib.Core.List.{List, [], _∷_, _++_}
+use mathlib.Core.{Path._≡_, Path.sym, Path.ap, Path._∙_, Logic.inl, List.List, List.[], List._∷_, List._++_}
 use Prim.Native.Nat.{ℕ, _+_, _*_, _≤_, _<_}
-use native.Mathlib.Nat.{mul-suc, mul-le-mul-left}
-use native.Mathlib.Numerals.{add-one}
-use native.Mathlib.Omega.{arith}
-use native.Mathlib.Decide.{decLt}
+use native.Mathlib.{Nat.mul-suc, Nat.mul-le-mul-left, Numerals.add-one, Omega.arith, Decide.decLt}
 use lib.ListN.{getD}
 use Rattle.semantics.specs.Reader.{Reader}
 use Rattle.words.specs.Entries.{tabulate, entries}
 use Rattle.words.proofs.Tabulate.{tabulate-more, tabulate-same}
-use Rattle.reader.specs.Cursor.{Yields}
-use Rattle.reader.specs.Layout.{Layout, KeptOutside, Fills, single, row, many}
+use Rattle.reader.specs.{Cursor.Yields, Layout.Layout, Layout.KeptOutside, Layout.Fills, Layout.single, Layout.row, Layout.many}
 use Rattle.reader.specs.declared.Cursor.{Cursor}
-use Rattle.reader.proofs.Chain.{become}
-use Rattle.reader.proofs.Counting.{times-none, times-more}
-use Rattle.reader.proofs.Keep.{kept-none, kept-both}
+use Rattle.reader.proofs.{Chain.become, Counting.times-none, Counting.times-more, Keep.kept-none, Keep.kept-both}
 
 -- An entry looks at no place but its own and those below `low`.
 pub record Local {A : Type 0} (layout : Layout A) : Type 0 where

@@ -1,17 +1,11 @@
 -- Numbers of four bytes.
-use mathlib.Core.Path.{_≡_}
-use mathlib.Core.List.{List, [], _∷_}
+use mathlib.Core.{Path._≡_, List.List, List.[], List._∷_}
 use Prim.Native.Nat.{ℕ, _+_, _*_}
 use native.Mathlib.Omega.{arith}
-use Rattle.semantics.specs.Lists.{digits}
-use Rattle.semantics.specs.Reader.{give, byte, word}
-use Rattle.semantics.specs.Formats.{asRead, value}
-use Rattle.reader.specs.Cursor.{Yields}
+use Rattle.semantics.specs.{Lists.digits, Reader.give, Reader.byte, Reader.word, Formats.asRead, Formats.value}
+use Rattle.reader.specs.{Cursor.Yields, Layout.valueLayout, Layout.Any}
 use Rattle.reader.specs.declared.Cursor.{Cursor}
-use Rattle.reader.proofs.Chain.{chain, done, become}
-use Rattle.reader.specs.Layout.{valueLayout, Any}
-use Rattle.reader.proofs.Section.{Local, single-local}
-use Rattle.reader.proofs.Counting.{times-none, times-more}
+use Rattle.reader.proofs.{Chain.chain, Chain.done, Chain.become, Section.Local, Section.single-local, Counting.times-none, Counting.times-more}
 
 word-value : (x y z w : ℕ) → digits 256 (x ∷ y ∷ z ∷ w ∷ []) ≡ x + 256 * y + 65536 * (z + 256 * w)
 unfolding digits

@@ -3,9 +3,8 @@ use mathlib.Core.List.{List, [], _∷_}
 use Prim.Native.Nat.{ℕ}
 use lib.ListN.{drop}
 use Rattle.semantics.specs.Reader.{Result, accepted, refused}
-use Rattle.reader.specs.declared.Cursor.{Cursor}
+use Rattle.reader.specs.declared.{Cursor.Cursor, Ladder.Ladder}
 use Rattle.reader.specs.declared.Cursor.the-variants.{At, Fault}
-use Rattle.reader.specs.declared.Ladder.{Ladder}
 use Rattle.reader.specs.declared.Ladder.the-variants.{Accepted, Refused}
 
 -- The result that an answer stands for, where `a` is what was read.

@@ -1,13 +1,10 @@
 -- Reading from a cursor, which keeps the first fault met: what the cursors of the code say in terms of the readers of the definitions.
-use mathlib.Core.List.{List}
-use mathlib.Core.Path.{_≡_}
+use mathlib.Core.{List.List, Path._≡_}
 use Prim.Native.Nat.{ℕ, _+_, _≤_, _<_}
-use lib.ListN.{drop}
-use lib.Dec.{leb, ltb}
+use lib.{ListN.drop, Dec.leb, Dec.ltb}
 use Rattle.semantics.specs.Reader.{Got, got, fault, Reader, _>>=_, byte, ensure}
-use Rattle.reader.specs.declared.Cursor.{Cursor}
+use Rattle.reader.specs.declared.{Cursor.Cursor, Entry.Entry}
 use Rattle.reader.specs.declared.Cursor.the-variants.{At, Fault}
-use Rattle.reader.specs.declared.Entry.{Entry}
 
 -- Reading on from a cursor.
 abbrev pub on : {A : Type 0} → List ℕ → Cursor → Reader A → Got A

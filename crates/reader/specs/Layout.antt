@@ -1,11 +1,8 @@
 -- How entries are read and where they lie in a block, and what a reader that fills a block promises.
-use mathlib.Core.List.{List}
-use mathlib.Core.Logic.{_⊎_}
-use mathlib.Core.Path.{_≡_}
+use mathlib.Core.{List.List, Logic._⊎_, Path._≡_}
 use Prim.Native.Nat.{ℕ, _+_, _*_, _≤_, _<_}
 use lib.ListN.{length, getD}
-use Rattle.semantics.specs.Reader.{Reader, times}
-use Rattle.semantics.specs.Formats.{value}
+use Rattle.semantics.specs.{Reader.Reader, Reader.times, Formats.value}
 use Rattle.words.specs.Entries.{tabulate}
 use Rattle.reader.specs.Cursor.{Yields}
 use Rattle.reader.specs.declared.Cursor.{Cursor}

@@ -1,24 +1,16 @@
 -- The starred rows, as one theorem: a test that computes over the whole table of rows, from the bytes on, and the lemma that a row that
 -- passes it is true.
-use mathlib.Core.Bool.{Bool, true, false, false≢true}
-use mathlib.Core.Path.{_≡_, refl, sym, _∙_}
-use mathlib.Core.List.{List, [], _∷_, flatMap}
+use mathlib.Core.{Bool.Bool, Bool.true, Bool.false, Bool.false≢true, Path._≡_, Path.refl, Path.sym, Path._∙_, List.List, List.[], List._∷_, List.flatMap}
 use Prim.Native.Nat.{ℕ, _-_}
-use lib.ListN.{length, getD}
-use lib.Dec.{eqb, leb}
+use lib.{ListN.length, ListN.getD, Dec.eqb, Dec.leb}
 use borrow.Author.Tests.{eqb-true, leb-true}
-use Rattle.semantics.specs.Lists.{_among_, member, digits, digitsOf}
-use Rattle.semantics.specs.Heap.{heapValues, wholeOf}
+use Rattle.semantics.specs.{Lists._among_, Lists.member, Lists.digits, Lists.digitsOf, Heap.heapValues, Heap.wholeOf}
 use Rattle.semantics.specs.Reader.{Result, accepted, refused, times, counted, word}
 use Rattle.semantics.specs.Formats.{readRuleSet, readSnapshot, records, readQuery, Input, ladder, WellFormedInput}
 use Rattle.semantics.specs.Domain.{firstOutside, spares, insert, ascending, mostVariables, domain}
-use Rattle.semantics.specs.Fact.{position, code, fact}
-use Rattle.semantics.specs.Rounds.{After}
-use Rattle.semantics.specs.Contract.{domainOf, FitsInput, CompletedInput}
+use Rattle.semantics.specs.{Fact.position, Fact.code, Fact.fact, Rounds.After, Contract.domainOf, Contract.FitsInput, Contract.CompletedInput}
 use Rattle.rows.specs.Rows.{Row, RowTrue, Verdict, LinesShown, LastShown, rows}
-use Rattle.semantics.proofs.DomainFacts.{member-true, member-out}
-use Rattle.semantics.proofs.Verdict.{verdict}
-use Rattle.semantics.proofs.FormatsFacts.{ladder-read}
+use Rattle.semantics.proofs.{DomainFacts.member-true, DomainFacts.member-out, Verdict.verdict, FormatsFacts.ladder-read}
 use Rattle.semantics.proofs.Evaluator.{when, both, every, sameList, sameRecord, assignments, compares, meetsAll, finds, takings, answers, callings, joined, byFacts, byRecords, byTest, byValues, byArguments, byRule, steps, following, dropKnown, newFacts, run, Run}
 use Rattle.semantics.proofs.Evaluation.{both-out, every-out, Done, run-done}
 use Rattle.semantics.proofs.LineCount.{ways, leave, isEmpty, isSome, avoids, exactly, line-count}

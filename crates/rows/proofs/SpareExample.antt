@@ -1,19 +1,13 @@
 -- Why an input in positions has spare positions, by an example: P(a) if some b is not a. By hand P(0) holds of the empty heap; over the
 -- domain 0 alone nothing follows, and over 0, 1, with a spare position for b, it does.
-use mathlib.Core.Path.{_≡_, refl, ap, ap₂, _∙_}
-use mathlib.Core.Logic.{⊎-elim}
+use mathlib.Core.{Path._≡_, Path.refl, Path.ap, Path.ap₂, Path._∙_, Logic.⊎-elim}
 use mathlib.Core.List.{List, [], _∷_, _++_, List·Memᴰ·head, List·Memᴰ·cases-cons, List·Memᴰ·not-nil}
 use Prim.Native.Nat.{ℕ, _+_, _<_}
 use native.Mathlib.Omega.{arith}
 use lib.ListN.{length, getD, length-append}
-use Rattle.semantics.specs.RuleSet.{var, unequal, Pure, Rule, RuleSet, arity}
-use Rattle.semantics.specs.Heap.{Joins}
-use Rattle.semantics.specs.Tree.{Takes}
-use Rattle.semantics.specs.Fact.{fact}
-use Rattle.semantics.specs.Rounds.{Called, Ground}
-use Rattle.semantics.specs.Placed.{upto}
-use Rattle.semantics.proofs.Coding.{getD-in}
-use Rattle.semantics.proofs.Placed.{below-upto, in-upto}
+use Rattle.semantics.specs.{RuleSet.var, RuleSet.unequal, RuleSet.Pure, RuleSet.Rule, RuleSet.RuleSet, RuleSet.arity, Heap.Joins, Tree.Takes, Fact.fact}
+use Rattle.semantics.specs.{Rounds.Called, Rounds.Ground, Placed.upto}
+use Rattle.semantics.proofs.{Coding.getD-in, Placed.below-upto, Placed.in-upto}
 
 abbrev pub differ : Pure
 differ = record { kind = unequal; left = var 0; right = var 1 }

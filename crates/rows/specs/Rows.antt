@@ -1,12 +1,8 @@
 -- Examples, no part of what must be believed: the starred rows of paper 01, each from its bytes, and what it is for a row to be true.
-use mathlib.Core.Bool.{Bool, true, false}
-use mathlib.Core.List.{List, [], _∷_, _++_}
-use mathlib.Core.Path.{_≡_}
+use mathlib.Core.{Bool.Bool, Bool.true, Bool.false, List.List, List.[], List._∷_, List._++_, Path._≡_}
 use Prim.Native.Nat.{ℕ, _-_}
 use lib.ListN.{length, getD}
-use Rattle.semantics.specs.Reader.{accepted}
-use Rattle.semantics.specs.Formats.{Input, ladder}
-use Rattle.semantics.specs.Faults.{bookL, four, asks}
+use Rattle.semantics.specs.{Reader.accepted, Formats.Input, Formats.ladder, Faults.bookL, Faults.four, Faults.asks}
 use Rattle.semantics.specs.Contract.{FitsInput, TrimmedInput, CompletedInput, house}
 
 -- The bytes asked about, and the reply: fits or not, facts, rounds, lines. `last` has the table's last fact, where the paper gives it.

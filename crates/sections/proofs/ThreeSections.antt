@@ -1,11 +1,9 @@
 -- What `split` says, in the words of the definitions: the bytes of the three sections, which book they stand for, and so what the engine
 -- was asked.
-use mathlib.Core.Path.{_≡_, refl, sym, ap, _∙_}
-use mathlib.Core.List.{List, [], _∷_}
+use mathlib.Core.{Path._≡_, Path.refl, Path.sym, Path.ap, Path._∙_, List.List, List.[], List._∷_}
 use Prim.Native.Nat.{ℕ, _-_, _<_}
 use native.Mathlib.Omega.{arith}
-use lib.ListN.{length, take, drop, length-drop}
-use lib.Seq.{length-take-le}
+use lib.{ListN.length, ListN.take, ListN.drop, ListN.length-drop, Seq.length-take-le}
 use Rattle.semantics.specs.Contract.{firstSection, otherSections, house, bookOr, bookSection, snapshotSection, questionSection, Decided}
 use Rattle.semantics.specs.declared.Reply.{Reply}
 use Rattle.sections.specs.Sections.{Splits}

@@ -1,6 +1,5 @@
 -- Where the sections of an input stand.
-use mathlib.Core.List.{List}
-use mathlib.Core.Path.{_≡_}
+use mathlib.Core.{List.List, Path._≡_}
 use Prim.Native.Nat.{ℕ, _-_, _≤_}
 use lib.ListN.{length, take, drop}
 use Rattle.semantics.specs.Contract.{firstSection, otherSections}

@@ -1,15 +1,10 @@
 -- Bits of a number, and the set of a list without repeats as a number.
-use mathlib.Core.Path.{_≡_, refl, sym, ap, _∙_}
-use mathlib.Core.Logic.{_≢_, _⊎_, ⊎-elim, by-cases}
+use mathlib.Core.{Path._≡_, Path.refl, Path.sym, Path.ap, Path._∙_, Logic._≢_, Logic._⊎_, Logic.⊎-elim, Logic.by-cases}
 use mathlib.Core.List.{List, [], _∷_, _++_, List·Memᴰ·head, List·Memᴰ·tail, List·Memᴰ·cases-cons, List·Memᴰ·not-nil, Memᴰ·append-left, Memᴰ·append-right, List·Memᴰ·append-cases, Memᴰ·cast}
 use Prim.Native.Nat.{ℕ, zero, suc, _+_, _-_, _/_, _%_, _^_, _≤_, _<_, min}
-use native.Mathlib.Nat.{pow-suc}
-use native.Mathlib.Omega.{arith}
-use native.Mathlib.Decide.{ℕ-discrete, decLt}
-use lib.Pow.{pow-pos}
-use lib.Bits.{bitAnd, and-step}
-use Rattle.semantics.specs.Lists.{_among_, Distinct}
-use Rattle.semantics.specs.Heap.{setOf}
+use native.Mathlib.{Nat.pow-suc, Omega.arith, Decide.ℕ-discrete, Decide.decLt}
+use lib.{Pow.pow-pos, Bits.bitAnd, Bits.and-step}
+use Rattle.semantics.specs.{Lists._among_, Lists.Distinct, Heap.setOf}
 
 -- bit i of n, 0 or 1
 pub bit : ℕ → ℕ → ℕ

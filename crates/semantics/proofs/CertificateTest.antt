@@ -1,15 +1,10 @@
 -- The conditions for lines as a test that computes: it takes the words apart, and tests each part.
-use mathlib.Core.Bool.{Bool, true, false}
-use mathlib.Core.List.{List, [], _∷_, _++_, map, flatMap}
+use mathlib.Core.{Bool.Bool, Bool.true, Bool.false, List.List, List.[], List._∷_, List._++_, List.map, List.flatMap}
 use Prim.Native.Nat.{ℕ, zero, suc, _+_, _*_, _/_, _%_, _^_}
-use lib.ListN.{length, getD, take, drop}
-use lib.Dec.{eqb, leb, ltb}
+use lib.{ListN.length, ListN.getD, ListN.take, ListN.drop, Dec.eqb, Dec.leb, Dec.ltb}
 use Rattle.semantics.specs.Lists.{digitsOf, member, digits}
-use Rattle.semantics.specs.RuleSet.{Call, Rule, RuleSet, arity, variables, blankRule}
-use Rattle.semantics.specs.Heap.{Heap}
-use Rattle.semantics.specs.Tree.{valuesOf}
-use Rattle.semantics.specs.Fact.{fact, partOf}
-use Rattle.semantics.specs.Certificate.{factAt, positionsAt, ruleAt}
+use Rattle.semantics.specs.{RuleSet.Call, RuleSet.Rule, RuleSet.RuleSet, RuleSet.arity, RuleSet.variables, RuleSet.blankRule, Heap.Heap, Tree.valuesOf}
+use Rattle.semantics.specs.{Fact.fact, Fact.partOf, Certificate.factAt, Certificate.positionsAt, Certificate.ruleAt}
 use Rattle.semantics.proofs.Evaluator.{every, both, meetsAll, takings, joined}
 
 module _ (ruleSet : RuleSet) (heap : Heap) (domain words : List ℕ) where

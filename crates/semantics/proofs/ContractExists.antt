@@ -1,26 +1,14 @@
 -- The contracts can be met: for all bytes and all lent memory there is an outcome of the engine, and for all words one of the check.
-use mathlib.Core.Bool.{Bool, true, false, false≢true}
-use mathlib.Core.Path.{_≡_, refl, sym, _∙_}
-use mathlib.Core.Logic.{_↔_, by-cases}
-use mathlib.Core.List.{List}
+use mathlib.Core.{Bool.Bool, Bool.true, Bool.false, Bool.false≢true, Path._≡_, Path.refl, Path.sym, Path._∙_, Logic._↔_, Logic.by-cases, List.List}
 use Prim.Native.Nat.{ℕ, _*_, _≤_, _<_}
-use native.Mathlib.Omega.{arith}
-use native.Mathlib.Decide.{ℕ-discrete, decLt}
+use native.Mathlib.{Omega.arith, Decide.ℕ-discrete, Decide.decLt}
 use lib.ListN.{length}
-use Rattle.semantics.specs.Lists.{zeros}
-use Rattle.semantics.specs.Heap.{wholeOf}
-use Rattle.semantics.specs.Formats.{Input, ladder, WellFormedInput}
-use Rattle.semantics.specs.Refusals.{tooManyFacts}
+use Rattle.semantics.specs.{Lists.zeros, Heap.wholeOf, Formats.Input, Formats.ladder, Formats.WellFormedInput, Refusals.tooManyFacts}
 use Rattle.semantics.specs.Contract.{domainOf, FitsInput, CertificateInput, Lent, CompletedInput, padded, refusalReply, Refuses, Answers, Decided, Checks, Checked}
-use Rattle.semantics.proofs.DomainFacts.{domain-ascending, domain-length}
-use Rattle.semantics.proofs.FormatsFacts.{ladder-read}
-use Rattle.semantics.proofs.Existence.{trimmed-exists}
-use Rattle.semantics.proofs.Reached.{completed-exists, more-facts, fits-decided}
-use Rattle.semantics.proofs.CertificateTest.{takes}
-use Rattle.semantics.proofs.Taking.{takes-exact}
+use Rattle.semantics.proofs.{DomainFacts.domain-ascending, DomainFacts.domain-length, FormatsFacts.ladder-read, Existence.trimmed-exists}
+use Rattle.semantics.proofs.{Reached.completed-exists, Reached.more-facts, Reached.fits-decided, CertificateTest.takes, Taking.takes-exact}
 use Rattle.semantics.proofs.ServedFacts.{serves}
-use Rattle.semantics.specs.declared.Reply.{Reply}
-use Rattle.semantics.specs.declared.CheckReply.{CheckReply}
+use Rattle.semantics.specs.declared.{Reply.Reply, CheckReply.CheckReply}
 
 lent-decided : (n m : ℕ) → Dec (Lent n m)
 lent-decided n m = step (decLt 0 n) (decLt n 65536) (ℕ-discrete m (3 * n))

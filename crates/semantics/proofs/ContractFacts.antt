@@ -1,19 +1,12 @@
 -- What the contract of the engine decides: everything but the certificate that is written on fits and its number of lines.
-use mathlib.Core.Path.{_≡_, refl, sym, ap, ap₂, _∙_}
-use mathlib.Core.List.{List}
+use mathlib.Core.{Path._≡_, Path.refl, Path.sym, Path.ap, Path.ap₂, Path._∙_, List.List}
 use Prim.Native.Nat.{ℕ, _-_, _*_, _≤_}
 use native.Mathlib.Omega.{arith}
-use lib.ListN.{length, take}
-use lib.Seq.{take-append-seam}
-use Rattle.semantics.specs.Lists.{zeros}
-use Rattle.semantics.specs.Reader.{Result}
-use Rattle.semantics.specs.Formats.{Input, ladder}
-use Rattle.semantics.specs.Served.{Served}
+use lib.{ListN.length, ListN.take, Seq.take-append-seam}
+use Rattle.semantics.specs.{Lists.zeros, Reader.Result, Formats.Input, Formats.ladder, Served.Served}
 use Rattle.semantics.specs.Contract.{MoreFactsThan, CompletedInput, padded, Answers, Decided, Checks, Checked, deskNumber, DeskDecided, DeskChecks, DeskChecked}
-use Rattle.semantics.proofs.Reached.{completed-unique, more-facts}
-use Rattle.semantics.proofs.ServedFacts.{OneOutcome, computed, served-both}
-use Rattle.semantics.specs.declared.Reply.{Reply}
-use Rattle.semantics.specs.declared.CheckReply.{CheckReply}
+use Rattle.semantics.proofs.{Reached.completed-unique, Reached.more-facts, ServedFacts.OneOutcome, ServedFacts.computed, ServedFacts.served-both}
+use Rattle.semantics.specs.declared.{Reply.Reply, CheckReply.CheckReply}
 
 -- two outcomes agree
 pub record Same (r s : Reply) (t u : List ℕ) (x y : List ℕ) : Type 0 where

@@ -1,14 +1,10 @@
 -- What is lent keeps its length in every outcome: the facts and the lines that are written fit.
-use mathlib.Core.Path.{_≡_, refl, sym, ap, _∙_}
-use mathlib.Core.Logic.{_≢_, ⊎-elim}
+use mathlib.Core.{Path._≡_, Path.refl, Path.sym, Path.ap, Path._∙_, Logic._≢_, Logic.⊎-elim}
 use mathlib.Core.List.{List, [], _∷_, List·Memᴰ·cases-cons, List·Memᴰ·not-nil}
 use Prim.Native.Nat.{ℕ, zero, suc, _-_, _*_, _≤_, _<_}
 use native.Mathlib.Omega.{arith}
 use lib.ListN.{length, length-append, length-replicate}
-use Rattle.semantics.specs.Lists.{_among_, Distinct, zeros}
-use Rattle.semantics.specs.Formats.{Input}
-use Rattle.semantics.specs.Certificate.{factAt}
-use Rattle.semantics.specs.Served.{Served}
+use Rattle.semantics.specs.{Lists._among_, Lists.Distinct, Lists.zeros, Formats.Input, Certificate.factAt, Served.Served}
 use Rattle.semantics.specs.Contract.{domainOf, TrimmedInput, CompletedInput, padded, Answers, Decided}
 use Rattle.semantics.proofs.FixedPoint.{line-holds, holding-counted}
 use Rattle.semantics.specs.declared.Reply.{Reply}

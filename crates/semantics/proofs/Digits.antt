@@ -1,6 +1,5 @@
 -- Numbers side by side in a word, over any base: the word's size, and the numbers back from the word.
-use mathlib.Core.Path.{_≡_, refl, sym, ap, ap₂, _∙_}
-use mathlib.Core.List.{List, [], _∷_, List·Memᴰ·head, List·Memᴰ·tail}
+use mathlib.Core.{Path._≡_, Path.refl, Path.sym, Path.ap, Path.ap₂, Path._∙_, List.List, List.[], List._∷_, List.List·Memᴰ·head, List.List·Memᴰ·tail}
 use Prim.Native.Nat.{ℕ, zero, suc, _+_, _*_, _^_, _/_, _≤_, _<_}
 use native.Mathlib.Omega.{arith}
 use native.Mathlib.Nat.{pow-zero, pow-suc, mul-le-mul-left, add-mul-mod-self-left, add-mul-div-left, mod-eq-of-lt, div-eq-of-lt}

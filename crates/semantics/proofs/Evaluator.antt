@@ -1,16 +1,11 @@
 -- The rounds as a computation, for rule sets and heaps of a few values: every rule, all values of the domain for its variables, every
 -- choice of facts. It serves the starred rows, and is no part of what must be believed.
-use mathlib.Core.Bool.{Bool, true, false}
-use mathlib.Core.List.{List, [], _∷_, _++_, map, flatMap}
+use mathlib.Core.{Bool.Bool, Bool.true, Bool.false, List.List, List.[], List._∷_, List._++_, List.map, List.flatMap}
 use Prim.Native.Nat.{ℕ, zero, suc, _+_, _^_}
-use lib.Dec.{eqb}
-use lib.Bits.{bitAnd}
+use lib.{Dec.eqb, Bits.bitAnd}
 use Rattle.semantics.specs.Lists.{member}
 use Rattle.semantics.specs.RuleSet.{Kind, equal, unequal, Pure, PointsTo, Call, Rule, RuleSet, arity}
-use Rattle.semantics.specs.Heap.{Record, Heap}
-use Rattle.semantics.specs.Tree.{valueOf, valuesOf, asked}
-use Rattle.semantics.specs.Domain.{ascending}
-use Rattle.semantics.specs.Fact.{fact, partOf}
+use Rattle.semantics.specs.{Heap.Record, Heap.Heap, Tree.valueOf, Tree.valuesOf, Tree.asked, Domain.ascending, Fact.fact, Fact.partOf}
 
 -- one way on if the test passes, and none otherwise
 unfoldable pub when : {A : Type 0} → Bool → A → List A

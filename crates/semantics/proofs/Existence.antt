@@ -1,30 +1,19 @@
 -- Where the query fits, there is a certificate of the engine's kind: build the facts that the query's fact needs, oldest first, drop those
 -- that nothing needs, and write a line for each.
-use mathlib.Core.Bool.{true, false}
-use mathlib.Core.Path.{_≡_, refl, sym, ap, ap₂, _∙_}
+use mathlib.Core.{Bool.true, Bool.false, Path._≡_, Path.refl, Path.sym, Path.ap, Path.ap₂, Path._∙_}
 use mathlib.Core.Logic.{_≢_, _⊎_, inl, inr, ⊎-elim, by-cases}
 use mathlib.Core.List.{List, [], _∷_, _++_, map, List·Memᴰ·head, List·Memᴰ·tail, List·Memᴰ·cases-cons, List·Memᴰ·not-nil, List·Memᴰ·append-cases, Memᴰ·append-left, Memᴰ·append-right, Memᴰ·map, Memᴰ·of-map, Memᴰ·cast}
 use Prim.Native.Nat.{ℕ, suc, _+_, _*_, _≤_, _<_}
-use native.Mathlib.Omega.{arith}
-use native.Mathlib.Decide.{ℕ-discrete}
-use lib.ListN.{length, getD, length-append, List·getD-append}
-use lib.Seq.{getD-append-add}
-use lib.Dec.{eqb}
+use native.Mathlib.{Omega.arith, Decide.ℕ-discrete}
+use lib.{ListN.length, ListN.getD, ListN.length-append, ListN.List·getD-append, Seq.getD-append-add, Dec.eqb}
 use borrow.Author.Tests.{eq-eqb, ne-eqb}
-use Rattle.semantics.specs.Lists.{_among_, Distinct, digits}
-use Rattle.semantics.specs.RuleSet.{RuleSet, blankRule}
-use Rattle.semantics.specs.Heap.{Heap, wholeOf}
-use Rattle.semantics.specs.Formats.{Valid}
-use Rattle.semantics.specs.Tree.{Fits}
-use Rattle.semantics.specs.Domain.{domain}
-use Rattle.semantics.specs.Fact.{position, fact}
+use Rattle.semantics.specs.{Lists._among_, Lists.Distinct, Lists.digits, RuleSet.RuleSet, RuleSet.blankRule, Heap.Heap, Heap.wholeOf, Formats.Valid}
+use Rattle.semantics.specs.{Tree.Fits, Domain.domain, Fact.position, Fact.fact}
 use Rattle.semantics.specs.Rounds.{Ground, Complete, After, Holds, AllHold}
 use Rattle.semantics.specs.Certificate.{factAt, LineHolds, Trimmed}
-use Rattle.semantics.proofs.Bits.{decIn, in-rest}
-use Rattle.semantics.proofs.DomainFacts.{query-good}
+use Rattle.semantics.proofs.{Bits.decIn, Bits.in-rest, DomainFacts.query-good}
 use Rattle.semantics.proofs.FixedPoint.{same-ground, holds-closed, table-holds, holding-counted}
-use Rattle.semantics.proofs.Verdict.{fits-whole, completeness}
-use Rattle.semantics.proofs.LineCount.{leave, leave-in, leave-out}
+use Rattle.semantics.proofs.{Verdict.fits-whole, Verdict.completeness, LineCount.leave, LineCount.leave-in, LineCount.leave-out}
 
 module _ (ruleSet : RuleSet) (heap : Heap) (values : List ℕ) where
   -- Facts, newest first, each from older ones, none twice.

@@ -1,14 +1,11 @@
 -- Each fault of the examples is met, with its number: one test that the checker computes, and the lemma that turns it into each.
-use mathlib.Core.Bool.{Bool, true, false, false≢true}
-use mathlib.Core.Path.{_≡_, refl, ap}
+use mathlib.Core.{Bool.Bool, Bool.true, Bool.false, Bool.false≢true, Path._≡_, Path.refl, Path.ap}
 use Prim.Native.Nat.{ℕ, _-_}
 use lib.Dec.{eqb}
 use borrow.Author.Tests.{eqb-true}
-use Rattle.semantics.specs.Lists.{_among_, digits}
-use Rattle.semantics.specs.Reader.{Result, accepted, refused, times, counted, word}
+use Rattle.semantics.specs.{Lists._among_, Lists.digits, Reader.Result, Reader.accepted, Reader.refused, Reader.times, Reader.counted, Reader.word}
 use Rattle.semantics.specs.Formats.{readRuleSet, readSnapshot, records, readQuery, Input, ladder}
-use Rattle.semantics.proofs.Evaluator.{both, every}
-use Rattle.semantics.proofs.Evaluation.{every-out}
+use Rattle.semantics.proofs.{Evaluator.both, Evaluator.every, Evaluation.every-out}
 use Rattle.semantics.specs.Faults.{Fault, faults}
 
 -- the faults, computed

@@ -1,13 +1,11 @@
 -- What a fact's number has room for. Soundness and completeness both rest on it.
-use mathlib.Core.Path.{_≡_, sym}
-use mathlib.Core.List.{List, Memᴰ·of-map, Memᴰ·cast}
+use mathlib.Core.{Path._≡_, Path.sym, List.List, List.Memᴰ·of-map, List.Memᴰ·cast}
 use Prim.Native.Nat.{ℕ, _≤_}
 use native.Mathlib.Omega.{arith}
 use lib.ListN.{length, getD}
 use Rattle.semantics.specs.Lists.{_among_}
 use Rattle.semantics.specs.RuleSet.{Term, var, fixed, RuleSet, fixedValues, InScope, WellFormed}
-use Rattle.semantics.specs.Heap.{Heap, WellFormedHeap}
-use Rattle.semantics.specs.Tree.{valueOf, valuesOf}
+use Rattle.semantics.specs.{Heap.Heap, Heap.WellFormedHeap, Tree.valueOf, Tree.valuesOf}
 use Rattle.semantics.proofs.Coding.{getD-in}
 
 pub record Limits (ruleSet : RuleSet) (heap : Heap) (domain : List ℕ) : Type 0 where

@@ -1,24 +1,15 @@
 -- How many lines a certificate of the engine's kind has: a test that computes. It goes from the last line to the first, with the facts
 -- passed, and those that a line passed calls and that are yet to come.
-use Rattle.semantics.proofs.Bits.{in-rest}
-use mathlib.Core.Bool.{Bool, true, false, false≢true}
-use mathlib.Core.Path.{_≡_, refl, sym, ap, _∙_}
+use Rattle.semantics.proofs.{Bits.in-rest, DomainFacts.member-false, FixedPoint.line-holds, FixedPoint.complete-has}
+use mathlib.Core.{Bool.Bool, Bool.true, Bool.false, Bool.false≢true, Path._≡_, Path.refl, Path.sym, Path.ap, Path._∙_}
 use mathlib.Core.Logic.{_≢_, _⊎_, ⊎-elim, by-cases}
 use mathlib.Core.List.{List, [], _∷_, _++_, map, flatMap, List·Memᴰ·head, List·Memᴰ·tail, List·Memᴰ·cases-cons, List·Memᴰ·not-nil, List·Memᴰ·append-cases, Memᴰ·append-left, Memᴰ·append-right, Memᴰ·map, Memᴰ·of-map, Memᴰ·cast}
 use Prim.Native.Nat.{ℕ, zero, suc, _≤_, _<_}
-use native.Mathlib.Omega.{arith}
-use native.Mathlib.Decide.{ℕ-discrete}
+use native.Mathlib.{Omega.arith, Decide.ℕ-discrete}
 use lib.Dec.{eqb}
 use borrow.Author.Tests.{eq-eqb, ne-eqb}
-use Rattle.semantics.specs.Lists.{_among_, member}
-use Rattle.semantics.specs.RuleSet.{RuleSet}
-use Rattle.semantics.specs.Heap.{Heap, wholeOf}
-use Rattle.semantics.specs.Domain.{domain}
-use Rattle.semantics.specs.Fact.{fact}
-use Rattle.semantics.specs.Rounds.{Complete}
+use Rattle.semantics.specs.{Lists._among_, Lists.member, RuleSet.RuleSet, Heap.Heap, Heap.wholeOf, Domain.domain, Fact.fact, Rounds.Complete}
 use Rattle.semantics.specs.Certificate.{factAt, Trimmed}
-use Rattle.semantics.proofs.DomainFacts.{member-false}
-use Rattle.semantics.proofs.FixedPoint.{line-holds, complete-has}
 use Rattle.semantics.proofs.Evaluator.{when, both, Step, steps, every}
 use Rattle.semantics.proofs.Evaluation.{flat-in, when-in, both-out, steps-in, every-out}
 

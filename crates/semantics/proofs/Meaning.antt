@@ -1,13 +1,8 @@
 -- The meaning of definitions 2.3 and 2.4 is exactly that of finished trees by hand.
-use mathlib.Core.Path.{_≡_, refl, sym}
-use mathlib.Core.Logic.{_↔_}
-use mathlib.Core.List.{List, [], _∷_, _++_}
+use mathlib.Core.{Path._≡_, Path.refl, Path.sym, Logic._↔_, List.List, List.[], List._∷_, List._++_}
 use Prim.Native.Nat.{ℕ}
 use native.Mathlib.Omega.{arith}
-use Rattle.semantics.specs.Lists.{Distinct}
-use Rattle.semantics.specs.RuleSet.{Call, RuleSet}
-use Rattle.semantics.specs.Heap.{Heap, setOf, Joins}
-use Rattle.semantics.specs.Tree.{Tree, Forest, ByHand}
+use Rattle.semantics.specs.{Lists.Distinct, RuleSet.Call, RuleSet.RuleSet, Heap.Heap, Heap.setOf, Heap.Joins, Tree.Tree, Tree.Forest, Tree.ByHand}
 use Rattle.semantics.specs.Meaning.{Means, MeansCalls}
 use Rattle.semantics.proofs.Bits.{setOf-append, distinct-left, distinct-right}
 use Rattle.semantics.proofs.Parts.{atoms-joins, tree-joins, joins-atoms, joins-tree}

@@ -1,23 +1,13 @@
 -- A certificate opens. From its first line on, each line gets a finished tree by hand, whose branches are the trees of the lines that it
 -- calls; the records are taken once each, since the subheaps that a line joins share none.
-use mathlib.Core.Path.{_≡_, refl, sym, ap, _∙_}
-use mathlib.Core.List.{List, [], _∷_, _++_, map, List·Memᴰ·head, List·Memᴰ·tail}
+use mathlib.Core.{Path._≡_, Path.refl, Path.sym, Path.ap, Path._∙_, List.List, List.[], List._∷_, List._++_, List.map, List.List·Memᴰ·head, List.List·Memᴰ·tail}
 use Prim.Native.Nat.{ℕ, zero, suc, _≤_, _<_}
 use native.Mathlib.Omega.{arith}
 use lib.ListN.{length}
-use Rattle.semantics.specs.Lists.{_among_, Distinct}
-use Rattle.semantics.specs.RuleSet.{Call, RuleSet, arity, variables}
-use Rattle.semantics.specs.Heap.{Heap, wholeOf, Joins}
-use Rattle.semantics.specs.Formats.{Valid}
-use Rattle.semantics.specs.Tree.{Forest, Fits}
-use Rattle.semantics.specs.Domain.{domain}
-use Rattle.semantics.specs.Fact.{fact, partOf}
-use Rattle.semantics.specs.Rounds.{Called}
-use Rattle.semantics.specs.Certificate.{factAt, LineHolds, Certificate, OpensAll, Opened}
-use Rattle.semantics.proofs.Bits.{whole-below, whole-members}
-use Rattle.semantics.proofs.Parts.{small-part}
-use Rattle.semantics.proofs.Limits.{Limits}
-use Rattle.semantics.proofs.DomainFacts.{good-is-domain, query-good}
+use Rattle.semantics.specs.{Lists._among_, Lists.Distinct, RuleSet.Call, RuleSet.RuleSet, RuleSet.arity, RuleSet.variables}
+use Rattle.semantics.specs.{Heap.Heap, Heap.wholeOf, Heap.Joins, Formats.Valid, Tree.Forest, Tree.Fits, Domain.domain, Fact.fact, Fact.partOf}
+use Rattle.semantics.specs.{Rounds.Called, Certificate.factAt, Certificate.LineHolds, Certificate.Certificate, Certificate.OpensAll, Certificate.Opened}
+use Rattle.semantics.proofs.{Bits.whole-below, Bits.whole-members, Parts.small-part, Limits.Limits, DomainFacts.good-is-domain, DomainFacts.query-good}
 use Rattle.semantics.proofs.Soundness.{Stands, Trees, shown-of, ScopedCall, call-shown, trees-next, variables-counted, calls-in-scope, calls-join, node-over, head-stands}
 use Rattle.semantics.proofs.Verdict.{limits}
 

@@ -1,15 +1,10 @@
 -- Records taken in a tree, and the disjoint join of subheaps as numbers.
-use mathlib.Core.Path.{_≡_, refl, sym}
-use mathlib.Core.Logic.{⊎-elim}
+use mathlib.Core.{Path._≡_, Path.refl, Path.sym, Logic.⊎-elim}
 use mathlib.Core.List.{List, [], _∷_, _++_, map, List·Memᴰ·head, List·Memᴰ·cases-cons, List·Memᴰ·not-nil, Memᴰ·cast, List·Memᴰ·append-cases}
 use Prim.Native.Nat.{ℕ, _^_, _≤_, _<_}
-use native.Mathlib.Omega.{arith}
-use native.Mathlib.Nat.{add-zero}
-use lib.ListN.{length}
-use lib.Bits.{bitAnd}
-use Rattle.semantics.specs.Lists.{_among_, Distinct}
-use Rattle.semantics.specs.RuleSet.{RuleSet, PointsTo, Call}
-use Rattle.semantics.specs.Heap.{Heap, setOf, Joins}
+use native.Mathlib.{Omega.arith, Nat.add-zero}
+use lib.{ListN.length, Bits.bitAnd}
+use Rattle.semantics.specs.{Lists._among_, Lists.Distinct, RuleSet.RuleSet, RuleSet.PointsTo, RuleSet.Call, Heap.Heap, Heap.setOf, Heap.Joins}
 use Rattle.semantics.specs.Tree.{Takes, Tree, Forest}
 use Rattle.semantics.proofs.Bits.{apart-and, and-apart, distinct-apart, distinct-left, distinct-right, distinct-append, setOf-append, setOf-below}
 

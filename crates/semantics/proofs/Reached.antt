@@ -1,19 +1,11 @@
 -- There is always a complete table; it has no fact twice; and "more facts than n" is that its length is above n.
-use mathlib.Core.Path.{_≡_}
-use mathlib.Core.Logic.{_↔_, by-cases}
-use mathlib.Core.List.{List}
+use mathlib.Core.{Path._≡_, Logic._↔_, Logic.by-cases, List.List}
 use Prim.Native.Nat.{ℕ, _<_}
-use native.Mathlib.Omega.{arith}
-use native.Mathlib.Decide.{decLt}
+use native.Mathlib.{Omega.arith, Decide.decLt}
 use lib.ListN.{length}
-use Rattle.semantics.specs.Heap.{wholeOf}
-use Rattle.semantics.specs.Formats.{Input, WellFormedInput}
-use Rattle.semantics.specs.Fact.{fact}
+use Rattle.semantics.specs.{Heap.wholeOf, Formats.Input, Formats.WellFormedInput, Fact.fact}
 use Rattle.semantics.specs.Contract.{domainOf, FitsInput, MoreFactsThan, CompletedInput}
-use Rattle.semantics.proofs.Bits.{decIn}
-use Rattle.semantics.proofs.Pigeon.{pigeon}
-use Rattle.semantics.proofs.FixedPoint.{table-holds, complete-has, complete-unique}
-use Rattle.semantics.proofs.Verdict.{verdict}
+use Rattle.semantics.proofs.{Bits.decIn, Pigeon.pigeon, FixedPoint.table-holds, FixedPoint.complete-has, FixedPoint.complete-unique, Verdict.verdict}
 use Rattle.semantics.proofs.Termination.{completed, table-distinct}
 
 pub completed-exists : (i : Input) → WellFormedInput i → (rounds : ℕ) × (facts : List ℕ) × CompletedInput i rounds facts

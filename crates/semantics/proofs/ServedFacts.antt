@@ -1,12 +1,9 @@
 -- What holds of every public call by its shape alone. A ladder has one outcome, so the reading and the lent memory decide the way out;
 -- and a number that the other ways out cannot give is given exactly on its own.
-use mathlib.Core.Path.{_≡_, sym, _∙_}
-use mathlib.Core.Logic.{_↔_, _≢_}
+use mathlib.Core.{Path._≡_, Path.sym, Path._∙_, Logic._↔_, Logic._≢_}
 use Prim.Native.Nat.{ℕ}
 use native.Mathlib.Omega.{arith}
-use Rattle.semantics.specs.Reader.{Result, accepted, refused}
-use Rattle.semantics.specs.Refusals.{memorySize}
-use Rattle.semantics.specs.Served.{Served}
+use Rattle.semantics.specs.{Reader.Result, Reader.accepted, Reader.refused, Refusals.memorySize, Served.Served}
 
 -- ---- ladders
 

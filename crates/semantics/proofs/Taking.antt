@@ -1,25 +1,18 @@
 -- The test takes words exactly if the conditions for lines hold.
-use mathlib.Core.Bool.{true, false≢true}
-use mathlib.Core.Path.{_≡_, refl, sym, ap, ap₂, _∙_}
-use mathlib.Core.Logic.{_↔_, by-cases}
+use mathlib.Core.{Bool.true, Bool.false≢true, Path._≡_, Path.refl, Path.sym, Path.ap, Path.ap₂, Path._∙_, Logic._↔_, Logic.by-cases}
 use mathlib.Core.List.{List, [], _∷_, _++_, map, List·Memᴰ·head, List·Memᴰ·tail, Memᴰ·map, Memᴰ·of-map, Memᴰ·cast}
 use Prim.Native.Nat.{ℕ, zero, suc, _+_, _*_, _/_, _%_, _^_, _≤_, _<_}
-use native.Mathlib.Omega.{arith}
-use native.Mathlib.Decide.{ℕ-discrete}
+use native.Mathlib.{Omega.arith, Decide.ℕ-discrete}
 use lib.ListN.{length, getD, take, drop, length-append, length-map, length-take, length-drop, take-append-drop}
 use lib.Dec.{eqb, leb, ltb}
 use borrow.Author.Tests.{eq-eqb, eqb-true, leb-true, ltb-true, lt-ltb, le-leb}
 use Rattle.semantics.specs.Lists.{_among_, Ascending, digits, digitsOf}
-use Rattle.semantics.specs.RuleSet.{Call, Rule, RuleSet, arity, variables, blankRule}
-use Rattle.semantics.specs.Heap.{Heap}
-use Rattle.semantics.specs.Tree.{valuesOf}
-use Rattle.semantics.specs.Fact.{position, fact, partOf}
-use Rattle.semantics.specs.Rounds.{Called, Ground}
+use Rattle.semantics.specs.{RuleSet.Call, RuleSet.Rule, RuleSet.RuleSet, RuleSet.arity, RuleSet.variables, RuleSet.blankRule, Heap.Heap, Tree.valuesOf}
+use Rattle.semantics.specs.{Fact.position, Fact.fact, Fact.partOf, Rounds.Called, Rounds.Ground}
 use Rattle.semantics.specs.Certificate.{factAt, positionsAt, ruleAt, LineHolds, Certificate}
 use Rattle.semantics.proofs.Digits.{digitsOf-length, digits-back}
 use Rattle.semantics.proofs.Coding.{getD-in, position-below, values-back, positions-back}
-use Rattle.semantics.proofs.DomainFacts.{member-true, member-out}
-use Rattle.semantics.proofs.Evaluator.{meetsAll, takings, joined}
+use Rattle.semantics.proofs.{DomainFacts.member-true, DomainFacts.member-out, Evaluator.meetsAll, Evaluator.takings, Evaluator.joined}
 use Rattle.semantics.proofs.Evaluation.{every-in, every-out, both-in, both-out, flat-in, flat-out, meetsAll-in, meetsAll-out, takings-in, takings-out, joined-in, joined-out}
 use Rattle.semantics.proofs.CertificateTest.{ruleOf, positionsOf, valuesAt, callsOf, callsTest, conclusions, earlierTest, positionTest, lineTest, takesLine, takesLines, takes}
 

@@ -1,26 +1,16 @@
 -- Soundness and completeness over the domain of a query, and the verdict: the complete table has the query's fact exactly if it fits by
 -- hand.
-use mathlib.Core.Path.{_≡_, sym, ap, _∙_}
-use mathlib.Core.Logic.{_↔_}
-use mathlib.Core.List.{List, map}
+use mathlib.Core.{Path._≡_, Path.sym, Path.ap, Path._∙_, Logic._↔_, List.List, List.map}
 use Prim.Native.Nat.{ℕ, _<_}
 use native.Mathlib.Omega.{arith}
 use lib.ListN.{length, length-map}
-use Rattle.semantics.specs.Lists.{_among_}
-use Rattle.semantics.specs.RuleSet.{RuleSet, arity}
-use Rattle.semantics.specs.Heap.{Heap, wholeOf}
-use Rattle.semantics.specs.Formats.{Valid}
-use Rattle.semantics.specs.Tree.{ByHand, Fits}
+use Rattle.semantics.specs.{Lists._among_, RuleSet.RuleSet, RuleSet.arity, Heap.Heap, Heap.wholeOf, Formats.Valid, Tree.ByHand, Tree.Fits}
 use Rattle.semantics.specs.Domain.{good, sparesOf, domain}
-use Rattle.semantics.specs.Fact.{fact, position, partOf, predicateOf, positionsOf, valuesAt}
-use Rattle.semantics.specs.Rounds.{After, Complete}
+use Rattle.semantics.specs.{Fact.fact, Fact.position, Fact.partOf, Fact.predicateOf, Fact.positionsOf, Fact.valuesAt, Rounds.After, Rounds.Complete}
 use Rattle.semantics.proofs.Bits.{whole-set, whole-members, whole-below}
 use Rattle.semantics.proofs.Coding.{short-positions, code-predicate, code-part, code-positions, values-back}
-use Rattle.semantics.proofs.Parts.{tree-below}
-use Rattle.semantics.proofs.Limits.{Limits}
-use Rattle.semantics.proofs.Completeness.{Setting, by-hand-holds}
-use Rattle.semantics.proofs.DomainFacts.{setting-of, good-is-domain, query-good}
-use Rattle.semantics.proofs.FixedPoint.{table-holds, complete-has}
+use Rattle.semantics.proofs.{Parts.tree-below, Limits.Limits, Completeness.Setting, Completeness.by-hand-holds}
+use Rattle.semantics.proofs.{DomainFacts.setting-of, DomainFacts.good-is-domain, DomainFacts.query-good, FixedPoint.table-holds, FixedPoint.complete-has}
 use Rattle.semantics.proofs.Soundness.{Sound, sound, sound-fact, part-small}
 
 -- every record exactly once, as a list and as a number

@@ -2,17 +2,11 @@
 -- number 1. The first word is the fact. The second has a byte for each variable of the rule, from the low end up: the position of its
 -- value. The third has the rule's number in its lowest byte, and above it sixteen bits for each call: the number of the line that is
 -- called.
-use mathlib.Core.List.{List, [], _∷_, _++_, map}
-use mathlib.Core.Path.{_≡_}
-use mathlib.Core.Logic.{_≢_}
+use mathlib.Core.{List.List, List.[], List._∷_, List._++_, List.map, Path._≡_, Logic._≢_}
 use Prim.Native.Nat.{ℕ, _+_, _-_, _*_, _≤_, _<_}
 use lib.ListN.{length, getD}
-use Rattle.semantics.specs.Lists.{_among_, Distinct, digits}
-use Rattle.semantics.specs.RuleSet.{Call, Rule, RuleSet, ruleOf}
-use Rattle.semantics.specs.Heap.{Heap, setOf}
-use Rattle.semantics.specs.Tree.{Tree, Forest}
-use Rattle.semantics.specs.Fact.{position, fact}
-use Rattle.semantics.specs.Rounds.{Ground}
+use Rattle.semantics.specs.{Lists._among_, Lists.Distinct, Lists.digits, RuleSet.Call, RuleSet.Rule, RuleSet.RuleSet, RuleSet.ruleOf}
+use Rattle.semantics.specs.{Heap.Heap, Heap.setOf, Tree.Tree, Tree.Forest, Fact.position, Fact.fact, Rounds.Ground}
 
 -- The words of line k, which is 1 or more.
 abbrev pub factAt : List ℕ → ℕ → ℕ

@@ -1,21 +1,11 @@
 -- What the public calls promise: the reply, and all lent memory afterwards, on every way out.
-use mathlib.Core.List.{List, [], _∷_, _++_}
-use mathlib.Core.Path.{_≡_}
+use mathlib.Core.{List.List, List.[], List._∷_, List._++_, Path._≡_}
 use Prim.Native.Nat.{ℕ, _+_, _-_, _*_, _≤_, _<_}
 use lib.ListN.{length, getD, take, drop}
-use Rattle.semantics.specs.Lists.{_among_, digitsOf, zeros}
-use Rattle.semantics.specs.RuleSet.{RuleSet}
-use Rattle.semantics.specs.Heap.{Heap, wholeOf}
-use Rattle.semantics.specs.Reader.{Result}
-use Rattle.semantics.specs.Refusals.{tooManyFacts}
-use Rattle.semantics.specs.Served.{Served}
-use Rattle.semantics.specs.Formats.{Input, ladder}
-use Rattle.semantics.specs.Tree.{Fits}
-use Rattle.semantics.specs.Domain.{domain}
-use Rattle.semantics.specs.Rounds.{After, Complete, Holds, MoreThan}
-use Rattle.semantics.specs.Certificate.{Certificate, Trimmed}
-use Rattle.semantics.specs.declared.Reply.{Reply}
-use Rattle.semantics.specs.declared.CheckReply.{CheckReply}
+use Rattle.semantics.specs.{Lists._among_, Lists.digitsOf, Lists.zeros, RuleSet.RuleSet, Heap.Heap, Heap.wholeOf, Reader.Result, Refusals.tooManyFacts}
+use Rattle.semantics.specs.{Served.Served, Formats.Input, Formats.ladder, Tree.Fits, Domain.domain}
+use Rattle.semantics.specs.{Rounds.After, Rounds.Complete, Rounds.Holds, Rounds.MoreThan, Certificate.Certificate, Certificate.Trimmed}
+use Rattle.semantics.specs.declared.{Reply.Reply, CheckReply.CheckReply}
 
 -- ---- the definitions, for what was read
 

@@ -1,11 +1,8 @@
 -- The formats and the ladder (paper 01: the book, the snapshot, the question; refusals 1 to 9): what the bytes say, or the number of
 -- the first fault met, front to back.
-use mathlib.Core.Bool.{Bool, true, false}
-use mathlib.Core.List.{List, [], _∷_}
-use mathlib.Core.Path.{_≡_}
+use mathlib.Core.{Bool.Bool, Bool.true, Bool.false, List.List, List.[], List._∷_, Path._≡_}
 use Prim.Native.Nat.{ℕ, zero, suc, _+_, _≤_, _<_}
-use lib.ListN.{length, getD}
-use lib.Dec.{eqb, leb, ltb}
+use lib.{ListN.length, ListN.getD, Dec.eqb, Dec.leb, Dec.ltb}
 use Rattle.semantics.specs.RuleSet.{Term, var, fixed, Kind, equal, unequal, Pure, PointsTo, Call, Rule, RuleSet, arity, WellFormed}
 use Rattle.semantics.specs.Heap.{Heap, WellFormedHeap}
 use Rattle.semantics.specs.Refusals.{bookEnds, bookCount, bookName, bookLonger, snapshotEnds, snapshotCount, snapshotAddress, snapshotLonger, questionMismatch}

@@ -1,9 +1,7 @@
 -- Heaps (paper 01: pools; the bytes of one are a snapshot) and their subheaps (parts), which are numbers: bit i for record i.
-use mathlib.Core.List.{List, [], _∷_, _++_}
-use mathlib.Core.Path.{_≡_}
+use mathlib.Core.{List.List, List.[], List._∷_, List._++_, Path._≡_}
 use Prim.Native.Nat.{ℕ, _+_, _-_, _≤_, _<_, _^_}
-use lib.ListN.{length}
-use lib.Bits.{bitAnd}
+use lib.{ListN.length, Bits.bitAnd}
 use Rattle.semantics.specs.Lists.{_among_}
 
 pub record Record : Type 0 where

@@ -1,12 +1,9 @@
 -- Meaning (source 000, definitions 2.3 and 2.4): a rule holds for a subheap that its points-to atoms and calls divide among them and
 -- share nowhere, and a predicate by the least fixed point of its rules. Variables take any whole numbers. Only subheaps of the one heap
 -- are spoken of: what a rule joins lies within the subheap that it holds for.
-use mathlib.Core.List.{List, [], _∷_, _++_, map}
-use mathlib.Core.Path.{_≡_}
+use mathlib.Core.{List.List, List.[], List._∷_, List._++_, List.map, Path._≡_}
 use Prim.Native.Nat.{ℕ, _^_}
-use Rattle.semantics.specs.RuleSet.{Call, Rule, RuleSet}
-use Rattle.semantics.specs.Heap.{Heap, Joins}
-use Rattle.semantics.specs.Tree.{valuesOf, Applies}
+use Rattle.semantics.specs.{RuleSet.Call, RuleSet.Rule, RuleSet.RuleSet, Heap.Heap, Heap.Joins, Tree.valuesOf, Tree.Applies}
 
 mutual
   pub data Means (ruleSet : RuleSet) (heap : Heap) : ℕ → List ℕ → ℕ → Type 0 where

@@ -1,6 +1,5 @@
 -- Reading bytes front to back: what was read with the bytes that are left, or the number of the first fault met.
-use mathlib.Core.Bool.{Bool, true, false}
-use mathlib.Core.List.{List, [], _∷_}
+use mathlib.Core.{Bool.Bool, Bool.true, Bool.false, List.List, List.[], List._∷_}
 use Prim.Native.Nat.{ℕ, zero, suc}
 use lib.Dec.{leb}
 use Rattle.semantics.specs.Lists.{digits}

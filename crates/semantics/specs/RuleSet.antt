@@ -1,6 +1,5 @@
 -- Rule sets (paper 01: the book; source 000, definitions 2.1 and 2.2): what a rule may say, and when a rule set is well formed.
-use mathlib.Core.List.{List, [], _∷_}
-use mathlib.Core.Path.{_≡_}
+use mathlib.Core.{List.List, List.[], List._∷_, Path._≡_}
 use Prim.Native.Nat.{ℕ, _+_, _≤_, _<_}
 use lib.ListN.{length, getD}
 use Rattle.semantics.specs.Lists.{_among_}

@@ -1,7 +1,6 @@
 -- The one shape of every public call: its input is read, then the memory that it was lent is looked at, then it answers.
 use Prim.Native.Nat.{ℕ}
-use Rattle.semantics.specs.Reader.{Result, accepted, refused}
-use Rattle.semantics.specs.Refusals.{memorySize}
+use Rattle.semantics.specs.{Reader.Result, Reader.accepted, Reader.refused, Refusals.memorySize}
 
 -- How a call is served. `Reads` is its own ladder: it relates the input to what was read, or to the number of the first fault. `Lends`
 -- says that the memory is as the call asks (the unit type, where it asks for none). `Refuses n` says what a refusal leaves, the same for

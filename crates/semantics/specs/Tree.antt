@@ -1,8 +1,6 @@
 -- Unfolding trees (paper 01: unfolding by hand): finite trees of rules that show a predicate of a subheap. Bound variables take any
 -- whole numbers.
-use mathlib.Core.List.{List, [], _∷_, _++_, map}
-use mathlib.Core.Path.{_≡_}
-use mathlib.Core.Logic.{_≢_}
+use mathlib.Core.{List.List, List.[], List._∷_, List._++_, List.map, Path._≡_, Logic._≢_}
 use Prim.Native.Nat.{ℕ, _<_}
 use lib.ListN.{length, getD}
 use Rattle.semantics.specs.Lists.{_among_, Distinct}

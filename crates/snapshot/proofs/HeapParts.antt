@@ -1,27 +1,20 @@
 -- Records: address, count and fields make a record, and records one after the other, each above the one before, make the heap.
-use mathlib.Core.Path.{_≡_, refl, sym, ap, fun-ext, _∙_}
-use mathlib.Core.Logic.{inl}
-use mathlib.Core.List.{List, _∷_}
+use mathlib.Core.{Path._≡_, Path.refl, Path.sym, Path.ap, Path.fun-ext, Path._∙_, Logic.inl, List.List, List._∷_}
 use Prim.Native.Nat.{ℕ, zero, suc, _+_, _*_, _≤_, _<_}
-use native.Mathlib.Numerals.{add-one}
-use native.Mathlib.Omega.{arith}
+use native.Mathlib.{Numerals.add-one, Omega.arith}
 use borrow.Author.Tests.{lt-ltb, le-ltb}
-use lib.Dec.{ltb}
-use lib.ListN.{getD}
-use Rattle.semantics.specs.Heap.{Record, Heap}
-use Rattle.semantics.specs.Reader.{Got, got, fault, onward, _>>=_, give, word, counted}
+use lib.{Dec.ltb, ListN.getD}
+use Rattle.semantics.specs.{Heap.Record, Heap.Heap, Reader.Got, Reader.got, Reader.fault, Reader.onward, Reader._>>=_, Reader.give, Reader.word, Reader.counted}
 use Rattle.semantics.specs.Formats.{value, address, records, snapshot}
 use Rattle.words.specs.Entries.{tabulate}
 use Rattle.block.specs.Layout.{recordIn, heapIn}
 use Rattle.words.proofs.Tabulate.{tabulate-more}
-use Rattle.reader.specs.Cursor.{Yields, stopped}
-use Rattle.reader.specs.Layout.{valueLayout, Fills, many}
+use Rattle.reader.specs.{Cursor.Yields, Cursor.stopped, Layout.valueLayout, Layout.Fills, Layout.many}
 use Rattle.snapshot.specs.HeapLayout.{addressLayout, sizeLayout, record-above, recordLayout, recordsLayout, AfterWord}
 use Rattle.reader.specs.declared.Cursor.{Cursor}
 use Rattle.reader.proofs.Chain.{assoc, chain, done, turn, passed, failed}
 use Rattle.reader.proofs.Counting.{threaded, left, left-snoc, threaded-none, threaded-more, ranged-then, counted-read}
-use Rattle.reader.proofs.Keep.{kept-none, kept-both}
-use Rattle.reader.proofs.Section.{ones, entries-same, Local, row-more}
+use Rattle.reader.proofs.{Keep.kept-none, Keep.kept-both, Section.ones, Section.entries-same, Section.Local, Section.row-more}
 
 -- an address above the one before, and one that is not
 pub address-above : {bytes : List ℕ} {c c₁ : Cursor} {v : ℕ} (low : ℕ) → Yields (word 5) bytes c c₁ v → low < v → Yields (address low) bytes c c₁ v

@@ -1,17 +1,13 @@
 -- How the entries of a snapshot are read and where they lie in a block of numbers.
-use mathlib.Core.List.{List}
-use mathlib.Core.Path.{_≡_}
+use mathlib.Core.{List.List, Path._≡_}
 use Prim.Native.Nat.{ℕ, _+_, _≤_}
 use lib.ListN.{length, getD}
-use Rattle.semantics.specs.Heap.{Record, Heap}
-use Rattle.semantics.specs.Reader.{Reader, _>>=_, give, word, counted}
+use Rattle.semantics.specs.{Heap.Record, Heap.Heap, Reader.Reader, Reader._>>=_, Reader.give, Reader.word, Reader.counted}
 use Rattle.semantics.specs.Formats.{value, address, records, snapshot, readSnapshot}
 use Rattle.block.specs.Layout.{recordIn, heapIn}
-use Rattle.reader.specs.Answer.{resultOf}
-use Rattle.reader.specs.Cursor.{Yields, rangedByte, Within}
+use Rattle.reader.specs.{Answer.resultOf, Cursor.Yields, Cursor.rangedByte, Cursor.Within}
 use Rattle.reader.specs.Layout.{Layout, KeptOutside, single, row, Any}
-use Rattle.reader.specs.declared.Cursor.{Cursor}
-use Rattle.reader.specs.declared.Ladder.{Ladder}
+use Rattle.reader.specs.declared.{Cursor.Cursor, Ladder.Ladder}
 
 -- An address above `low`, and a count of at most `most`.
 abbrev pub addressLayout : ℕ → Layout ℕ

@@ -1,11 +1,8 @@
 -- The digits of a word by shifts, and digits that are unused.
-use mathlib.Core.Path.{_≡_, refl, sym, ap, ap₂, _∙_}
-use mathlib.Core.List.{List, [], _∷_, _++_}
+use mathlib.Core.{Path._≡_, Path.refl, Path.sym, Path.ap, Path.ap₂, Path._∙_, List.List, List.[], List._∷_, List._++_}
 use Prim.Native.Nat.{ℕ, zero, suc, _+_, _*_, _/_, _%_, _^_, _≤_, _<_}
-use native.Mathlib.Omega.{arith}
-use native.Mathlib.Nat.{div-one}
-use lib.ListN.{getD}
-use lib.Pow.{shr-shr, field, mod-mod-pow}
+use native.Mathlib.{Omega.arith, Nat.div-one}
+use lib.{ListN.getD, Pow.shr-shr, Pow.field, Pow.mod-mod-pow}
 use Rattle.semantics.specs.Lists.{digits, digitsOf, zeros}
 use Rattle.words.specs.Entries.{tabulate}
 

@@ -1,10 +1,7 @@
 -- Shared bits by halves, and by the conjunction of the two words: two subheaps share a record exactly if their conjunction is not 0.
 use Prim.Native.Nat.{ℕ, zero, suc, _/_, _%_, _^_, _≤_}
-use mathlib.Core.Bool.{Bool, true, false, false≢true}
-use mathlib.Core.Path.{_≡_, sym, ap, _∙_}
-use native.Mathlib.Omega.{arith}
-use native.Mathlib.Decide.{ℕ-discrete}
-use native.Mathlib.Nat.{pow-succ', div-div-eq-div-mul, div-one, zero-div}
+use mathlib.Core.{Bool.Bool, Bool.true, Bool.false, Bool.false≢true, Path._≡_, Path.sym, Path.ap, Path._∙_}
+use native.Mathlib.{Omega.arith, Decide.ℕ-discrete, Nat.pow-succ', Nat.div-div-eq-div-mul, Nat.div-one, Nat.zero-div}
 use lib.Bits.{bitAnd, and-step, and-zero-l}
 use Rattle.words.specs.Subheap.{Told, Shares}
 

@@ -1,6 +1,5 @@
 -- Subheaps as words: when two of them share a record.
-use mathlib.Core.Bool.{Bool, true, false}
-use mathlib.Core.Path.{_≡_}
+use mathlib.Core.{Bool.Bool, Bool.true, Bool.false, Path._≡_}
 use Prim.Native.Nat.{ℕ, _/_, _%_, _^_}
 
 -- A test's answer: true exactly if the fact holds.

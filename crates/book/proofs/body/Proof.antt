@@ -1,7 +1,6 @@
 -- The parts make the rule; the lengths and the arities stay, so every part has its room.
 use native.Mathlib.Omega.{arith}
-use Rattle.book.proofs.Heading.{header-kept}
-use Rattle.book.proofs.RuleParts.{kept₀₅, body-fills}
+use Rattle.book.proofs.{Heading.header-kept, RuleParts.kept₀₅, RuleParts.body-fills}
 use Rattle.book.proofs.body.Statement.{statement}
 use Rattle.book.proofs.body.Tie as tie
 

@@ -1,7 +1,6 @@
 -- The name and the arguments make the call: the arities stand below what is written.
 use native.Mathlib.Omega.{arith}
-use Rattle.book.proofs.Conditions.{call-fills}
-use Rattle.book.proofs.Heading.{arity-few}
+use Rattle.book.proofs.{Conditions.call-fills, Heading.arity-few}
 use Rattle.book.proofs.call.Statement.{statement}
 use Rattle.book.proofs.call.Tie as tie
 

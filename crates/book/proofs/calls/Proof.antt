@@ -2,8 +2,7 @@
 use native.Mathlib.Omega.{arith}
 use Prim.Native.Nat.{_-_}
 use Rattle.book.specs.BookLayout.{aritiesIn, callLayout}
-use Rattle.book.proofs.Heading.{arities-kept, header-kept}
-use Rattle.book.proofs.Locals.{call-local}
+use Rattle.book.proofs.{Heading.arities-kept, Heading.header-kept, Locals.call-local}
 use Rattle.reader.proofs.Section.{Filled, none, more, whole}
 use Rattle.book.proofs.calls.Statement.{statement}
 use Rattle.book.proofs.calls.Tie as tie

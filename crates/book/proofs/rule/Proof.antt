@@ -1,7 +1,6 @@
 -- Head, bound variables and body make the rule; the arity of the head is at most 4.
 use native.Mathlib.Omega.{arith}
-use Rattle.book.proofs.Heading.{header-kept, arity-few}
-use Rattle.book.proofs.RuleParts.{rule-fills}
+use Rattle.book.proofs.{Heading.header-kept, Heading.arity-few, RuleParts.rule-fills}
 use Rattle.book.proofs.rule.Statement.{statement}
 use Rattle.book.proofs.rule.Tie as tie
 

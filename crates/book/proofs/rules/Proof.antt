@@ -2,8 +2,7 @@
 use native.Mathlib.Omega.{arith}
 use Prim.Native.Nat.{_-_}
 use Rattle.book.specs.BookLayout.{aritiesIn, ruleLayout}
-use Rattle.book.proofs.Heading.{arities-kept, header-kept}
-use Rattle.book.proofs.Locals.{rule-local}
+use Rattle.book.proofs.{Heading.arities-kept, Heading.header-kept, Locals.rule-local}
 use Rattle.reader.proofs.Section.{Filled, none, more, whole}
 use Rattle.book.proofs.rules.Statement.{statement}
 use Rattle.book.proofs.rules.Tie as tie

@@ -2,8 +2,7 @@
 use Prim.Native.Nat.{_-_, _≤_}
 use mathlib.Core.Path.{_≡_, sym}
 use native.Mathlib.Omega.{arith}
-use lib.ListN.{length, length-set}
-use lib.Seq.{length-take-le}
+use lib.{ListN.length, ListN.length-set, Seq.length-take-le}
 use borrow.Author.Needs.{needs}
 use Rattle.cases.proofs.load.Statement.{statement}
 use Rattle.cases.proofs.load.Tie as tie

@@ -1,10 +1,9 @@
 -- `check` tests the number of words and the last fact, and passes the lines one by one: those passed hold. What is told of the blocks is
 -- told of the input that they hold.
-use borrow.Author.Needs.{needs}
+use borrow.Author.{Needs.needs, Count.below-more}
 use mathlib.Core.Path.{sym, _∙_}
 use Prim.Native.Nat.{ℕ, _+_, _-_, _≤_, _<_}
 use native.Mathlib.Omega.{arith}
-use borrow.Author.Count.{below-more}
 use Rattle.block.proofs.ReadyBlocks.{ready-of}
 use Rattle.words.proofs.Subheap.{told-true, told-false}
 use Rattle.certificate.specs.Line.{LineIn}

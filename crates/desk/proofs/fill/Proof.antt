@@ -1,9 +1,7 @@
 -- After k turns the first k words are those of the first 8 k bytes.
-use mathlib.Core.Path.{_≡_, refl}
-use mathlib.Core.List.{List·Memᴰ·not-nil}
+use mathlib.Core.{Path._≡_, Path.refl, List.List·Memᴰ·not-nil}
 use Prim.Native.Nat.{suc, _+_, _-_, _≤_}
-use native.Mathlib.Omega.{arith}
-use native.Mathlib.Numerals.{add-one}
+use native.Mathlib.{Omega.arith, Numerals.add-one}
 use lib.ListN.{length, length-set}
 use Rattle.desk.specs.Words.{Loads}
 use Rattle.desk.proofs.Bytes.{loads-more}

@@ -1,11 +1,9 @@
 -- The first of the three that refuses gives the refusal; where none does, the blocks hold what the ladder accepts.
-use mathlib.Core.Path.{_≡_, _∙_}
-use mathlib.Core.List.{List}
+use mathlib.Core.{Path._≡_, Path._∙_, List.List}
 use Prim.Native.Nat.{ℕ}
 use borrow.Author.Needs.{needs}
 use lib.ListN.{length}
-use Rattle.semantics.specs.Reader.{accepted}
-use Rattle.semantics.specs.Formats.{readRuleSet, readSnapshot, readQuery, ladder}
+use Rattle.semantics.specs.{Reader.accepted, Formats.readRuleSet, Formats.readSnapshot, Formats.readQuery, Formats.ladder}
 use Rattle.block.specs.Layout.{ruleSetIn, heapIn, inputIn}
 use Rattle.reader.specs.Answer.{resultOf}
 use Rattle.reader.specs.declared.Ladder.{Ladder}

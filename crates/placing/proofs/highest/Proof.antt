@@ -1,9 +1,7 @@
 -- `highest` meets its contract: none of the bytes passed is above the largest so far.
 use Prim.Native.Nat.{_-_, _≤_, _<_}
-use mathlib.Core.Path.{_≡_}
-use mathlib.Core.Logic.{⊎-elim}
-use native.Mathlib.Omega.{arith}
-use native.Mathlib.Nat.{eq-or-lt-of-le}
+use mathlib.Core.{Path._≡_, Logic.⊎-elim}
+use native.Mathlib.{Omega.arith, Nat.eq-or-lt-of-le}
 use lib.ListN.{getD}
 use borrow.Author.Needs.{needs}
 use Rattle.placing.specs.Placed.{Highest}

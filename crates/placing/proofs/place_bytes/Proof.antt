@@ -1,7 +1,6 @@
 -- `place_bytes` meets its contract: the bytes before place i are placed, and the others are as they were.
 use Prim.Native.Nat.{_+_, _-_, _≤_}
-use mathlib.Core.Path.{_≡_}
-use mathlib.Core.Logic.{⊎-elim}
+use mathlib.Core.{Path._≡_, Logic.⊎-elim}
 use native.Mathlib.Omega.{arith}
 use Rattle.placing.specs.Placed.{BytesPlaced}
 use Rattle.placing.proofs.PlacingRules.{bytes-low, bytes-join, byte-low, byte-fixed}

@@ -2,8 +2,7 @@
 use Rattle.sections.proofs.Lists.{none, cut, whole, first}
 use native.Mathlib.Omega.{arith}
 use lib.ListN.{length, length-drop, drop}
-use mathlib.Core.Path.{_≡_, refl}
-use mathlib.Core.List.{List}
+use mathlib.Core.{Path._≡_, Path.refl, List.List}
 use Prim.Native.Nat.{ℕ, _+_, _*_, _≤_}
 use Rattle.semantics.specs.Contract.{sectionLength}
 use borrow.Author.Needs.{needs}

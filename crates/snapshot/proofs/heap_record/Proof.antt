@@ -1,15 +1,13 @@
 -- A reader is made of slice and cursor and goes through the record; its cursor is the answer. The block is lent on for good, so its last
 -- list is the one that `record` speaks of.
-use mathlib.Core.Path.{_≡_, refl}
-use mathlib.Core.List.{List, [], _∷_}
+use mathlib.Core.{Path._≡_, Path.refl, List.List, List.[], List._∷_}
 use Prim.Native.Nat.{ℕ, _+_, _<_, _≤_, _^_}
 use lib.ListN.{length}
 use denote.Ref.{now}
 use denote.Enum.Laws as enum-laws
 use Rattle.snapshot.specs.HeapLayout.{recordLayout}
 use Rattle.reader.specs.Layout.{Fills}
-use Rattle.reader.specs.declared.Cursor.{Cursor}
-use Rattle.reader.specs.declared.Reader.{Reader}
+use Rattle.reader.specs.declared.{Cursor.Cursor, Reader.Reader}
 use Rattle.reader.proofs.Carry.{cursorVal, sliceOf, readerVal, IsCursor, cursor-makes, Bytes, IsBytes, parts-are, reader-told, cursor-typed}
 use Rattle.reader.proofs.Carry.{reader-typed, made-typed, together}
 use Rattle.reader.proofs.Walk.{Vals, URA, fullShare, named, erased, w32, w64, Val, vint, SProp, ent, emp, id⊢, Lft, Share, ftrue, fat, flft}

@@ -1,18 +1,15 @@
 -- One reader is made at the start of the bytes and goes through the section; `finish` then looks whether a byte is left at its cursor. The block
 -- is lent on for good, so its last list is the one that `section` speaks of.
-use mathlib.Core.Path.{_≡_, refl, ap}
-use mathlib.Core.List.{List, [], _∷_}
+use mathlib.Core.{Path._≡_, Path.refl, Path.ap, List.List, List.[], List._∷_}
 use Prim.Native.Nat.{ℕ}
-use lib.Dec.{lit<}
-use lib.ListN.{length}
+use lib.{Dec.lit<, ListN.length}
 use denote.Ref.{now}
 use denote.Enum.Laws as enum-laws
 use Rattle.semantics.specs.Formats.{snapshot, readSnapshot}
 use Rattle.snapshot.specs.HeapLayout.{HeapFills, HeapRead}
 use Rattle.reader.specs.Answer.{finished}
 use Rattle.reader.specs.declared.Cursor.the-variants.{At}
-use Rattle.reader.specs.declared.Ladder.{Ladder}
-use Rattle.reader.specs.declared.Reader.{Reader}
+use Rattle.reader.specs.declared.{Ladder.Ladder, Reader.Reader}
 use Rattle.reader.proofs.Finishing.{finish-is}
 use Rattle.reader.proofs.Carry.{cursorVal, sliceOf, readerVal, IsCursor, cursor-makes, Bytes, IsBytes, parts-are, reader-told, cursor-typed}
 use Rattle.reader.proofs.Carry.{reader-typed, made-typed, apart, together}

@@ -1,22 +1,17 @@
 -- The reader reads four bytes and comes back moved, with their value; it is taken apart, `after_address` reads the rest of the record into the
 -- block, and the same slice goes on with the cursor that it gives. The block is lent on for good, so its last list is the one that
 -- `after_address` speaks of.
-use mathlib.Core.Path.{_≡_, refl, ap}
-use mathlib.Core.List.{List, [], _∷_}
+use mathlib.Core.{Path._≡_, Path.refl, Path.ap, List.List, List.[], List._∷_}
 use Prim.Native.Nat.{ℕ, _+_, _<_, _≤_, _^_}
-use lib.Dec.{lit<}
-use lib.ListN.{length}
+use lib.{Dec.lit<, ListN.length}
 use denote.Ref.{now}
 use denote.Struct.Rest.{all-own, own-open}
 use denote.Enum.Laws as enum-laws
 use denote.Struct.Laws as struct-laws
 use Rattle.semantics.specs.Reader.{word as wordReader}
-use Rattle.reader.specs.Cursor.{Yields}
+use Rattle.reader.specs.{Cursor.Yields, Layout.Fills}
 use Rattle.snapshot.specs.HeapLayout.{recordLayout, AfterWord}
-use Rattle.reader.specs.Layout.{Fills}
-use Rattle.reader.specs.declared.Cursor.{Cursor}
-use Rattle.reader.specs.declared.Reader.{Reader}
-use Rattle.reader.specs.declared.Word.{Word}
+use Rattle.reader.specs.declared.{Cursor.Cursor, Reader.Reader, Word.Word}
 use Rattle.reader.proofs.Carry.{cursorVal, sliceOf, readerVal, cursor-is, cursor-told, cursor-makes, Bytes, cursor-typed, reader-typed}
 use Rattle.reader.proofs.Carry.{made-typed, together}
 use Rattle.reader.proofs.Walk.{Vals, URA, fullShare, named, erased, w8, w32, w64, Val, vint, SProp, ent, sep, emp, id⊢, Lft, Share, Fml}

@@ -1,7 +1,6 @@
 -- The reader is taken apart, `counted_records` reads from its cursor into the block, and the same slice goes on with the cursor that it
 -- gives. The block is lent on for good, so its last list is the one that `counted_records` speaks of.
-use mathlib.Core.Path.{_≡_, refl}
-use mathlib.Core.List.{List, [], _∷_}
+use mathlib.Core.{Path._≡_, Path.refl, List.List, List.[], List._∷_}
 use Prim.Native.Nat.{ℕ}
 use lib.ListN.{length}
 use denote.Ref.{now}

@@ -1,11 +1,9 @@
 -- `query_values` meets its contract: the part of the block from place 2 on has the values one by one.
-use mathlib.Core.Path.{_≡_, sym, ap, _∙_}
-use mathlib.Core.List.{List}
+use mathlib.Core.{Path._≡_, Path.sym, Path.ap, Path._∙_, List.List}
 use Prim.Native.Nat.{ℕ, _+_, _-_, _≤_}
 use native.Mathlib.Omega.{arith}
 use borrow.Author.Needs.{needs}
-use lib.ListN.{length, getD, take, drop, length-drop}
-use lib.Seq.{ext-getD, getD-take, getD-drop, length-take-le}
+use lib.{ListN.length, ListN.getD, ListN.take, ListN.drop, ListN.length-drop, Seq.ext-getD, Seq.getD-take, Seq.getD-drop, Seq.length-take-le}
 use Rattle.words.specs.Entries.{entries}
 use Rattle.words.proofs.Tabulate.{entries-length, tabulate-at}
 use Rattle.block.proofs.heap.query_values.Statement.{statement}

@@ -4,8 +4,7 @@ use Prim.Native.Nat.{_+_, _*_}
 use lib.ListN.{set, length-set}
 use Rattle.ground.specs.Grounded.{calledAt}
 use mathlib.Core.Path.{_∙_}
-use Rattle.builder.proofs.Layers.{supplied-grounded}
-use Rattle.builder.proofs.Planning.{three-marks, written-long}
+use Rattle.builder.proofs.{Layers.supplied-grounded, Planning.three-marks, Planning.written-long}
 use native.Mathlib.Omega.{arith}
 use borrow.Author.Needs.{needs}
 use Rattle.builder.proofs.plan.visit.Statement.{statement}

@@ -1,7 +1,6 @@
 -- `call_fact` packs the call's four positions, those past its arity being 0.
 use borrow.Author.Needs.{needs}
-use mathlib.Core.Path.{_∙_}
-use mathlib.Core.List.{[], _∷_}
+use mathlib.Core.{Path._∙_, List.[], List._∷_}
 use Prim.Native.Nat.{_+_}
 use native.Mathlib.Omega.{arith}
 use lib.ListN.{length-map}

@@ -1,18 +1,14 @@
 -- `calls_join` passes the calls one by one. The invariant: all calls join to what was used at the start exactly if those that are left join
 -- to what is used now.
 use borrow.Author.Needs.{needs}
-use mathlib.Core.Path.{_≡_, sym, ap, _∙_}
-use mathlib.Core.Logic.{_↔_}
+use mathlib.Core.{Path._≡_, Path.sym, Path.ap, Path._∙_, Logic._↔_}
 use Prim.Native.Nat.{_+_, _-_, _%_, _≤_, _<_}
 use native.Mathlib.Omega.{arith}
-use Rattle.semantics.specs.Certificate.{factAt}
-use Rattle.semantics.specs.Fact.{partOf}
+use Rattle.semantics.specs.{Certificate.factAt, Fact.partOf}
 use Rattle.block.specs.Layout.{callCount}
 use Rattle.words.proofs.Subheap.{told-false, told-apart, told-shared}
 use Rattle.certificate.specs.Line.{givenBy, CallsOf}
-use Rattle.certificate.proofs.Answers.{told-equal}
-use Rattle.certificate.proofs.Joining.{sum-small}
-use Rattle.certificate.proofs.Passing.{CallsFrom, calls-step, calls-done}
+use Rattle.certificate.proofs.{Answers.told-equal, Joining.sum-small, Passing.CallsFrom, Passing.calls-step, Passing.calls-done}
 use Rattle.certificate.proofs.join.calls_join.Statement.{statement}
 use Rattle.certificate.proofs.join.calls_join.Tie as tie
 

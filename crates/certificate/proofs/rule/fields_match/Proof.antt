@@ -1,9 +1,8 @@
 -- `fields_match` passes the fields one by one: those passed are the positions of their terms, and the first that is not is the answer no.
-use borrow.Author.Needs.{needs}
+use borrow.Author.{Needs.needs, Count.below-none, Count.below-more}
 use mathlib.Core.Path.{_≡_, sym, _∙_}
 use Prim.Native.Nat.{ℕ, _+_, _-_, _≤_, _<_}
 use native.Mathlib.Omega.{arith}
-use borrow.Author.Count.{below-none, below-more}
 use lib.ListN.{getD}
 use Rattle.semantics.specs.Tree.{valueOf}
 use Rattle.block.specs.Layout.{termIn}

@@ -1,9 +1,8 @@
 -- `find_record` passes the records one by one: none of those passed is as asked for, so the first that is comes first.
-use borrow.Author.Needs.{needs}
+use borrow.Author.{Needs.needs, Count.below-none, Count.below-more}
 use mathlib.Core.Logic.{_≢_}
 use Prim.Native.Nat.{ℕ, _-_, _≤_, _<_}
 use native.Mathlib.Omega.{arith}
-use borrow.Author.Count.{below-none, below-more}
 use Rattle.semantics.specs.Tree.{asked}
 use Rattle.block.specs.Layout.{atomIn, recordIn, atomPlace, recordPlace}
 use Rattle.certificate.specs.Line.{givenBy}

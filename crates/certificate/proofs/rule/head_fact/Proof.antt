@@ -1,7 +1,6 @@
 -- `head_fact` packs the head's four positions, those past its arity being 0.
 use borrow.Author.Needs.{needs}
-use mathlib.Core.Path.{ap, _∙_}
-use mathlib.Core.List.{[], _∷_}
+use mathlib.Core.{Path.ap, Path._∙_, List.[], List._∷_}
 use Prim.Native.Nat.{ℕ}
 use native.Mathlib.Omega.{arith}
 use lib.ListN.{take, length-take}

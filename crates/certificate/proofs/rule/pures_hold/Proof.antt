@@ -1,8 +1,7 @@
 -- `pures_hold` passes the conditions one by one: those passed hold, and the first that does not is the answer no.
-use borrow.Author.Needs.{needs}
+use borrow.Author.{Needs.needs, Count.below-none, Count.below-more}
 use Prim.Native.Nat.{ℕ, _-_, _≤_, _<_}
 use native.Mathlib.Omega.{arith}
-use borrow.Author.Count.{below-none, below-more}
 use Rattle.semantics.specs.Tree.{Meets}
 use Rattle.block.specs.Layout.{pureIn, purePlace}
 use Rattle.words.proofs.Subheap.{told-true, told-false}

@@ -1,15 +1,12 @@
 -- The reader is taken apart, `fields::word` reads from its cursor, and the same slice goes on with the cursor that it gives.
-use mathlib.Core.Path.{refl, ap}
-use mathlib.Core.List.{[], _∷_}
+use mathlib.Core.{Path.refl, Path.ap, List.[], List._∷_}
 use Prim.Native.Nat.{ℕ, _<_, _^_}
 use denote.Ref.{now}
 use denote.Struct.Rest.{own-shut}
 use denote.Struct.Laws as struct-laws
 use Rattle.semantics.specs.Reader.{word as wordReader}
 use Rattle.reader.specs.Cursor.{Yields}
-use Rattle.reader.specs.declared.Number.{Number}
-use Rattle.reader.specs.declared.Reader.{Reader}
-use Rattle.reader.specs.declared.Word.{Word}
+use Rattle.reader.specs.declared.{Number.Number, Reader.Reader, Word.Word}
 use Rattle.reader.proofs.Carry.{cursorVal, sliceOf, readerVal, IsCursor, cursor-makes, Bytes, IsBytes, parts-are, cursor-typed}
 use Rattle.reader.proofs.Carry.{reader-typed, apart}
 use Rattle.reader.proofs.Walk.{URA, fullShare, w8, w32, Val, vint, SProp, ent, sep, emp, id⊢, Lft, Share, Fml, ftrue, fat, flft}

@@ -1,6 +1,5 @@
 -- A byte that passes the test is given on; any other stops the cursor.
-use borrow.Author.Needs.{needs}
-use borrow.Author.Tests.{lt-ltb, le-ltb}
+use borrow.Author.{Needs.needs, Tests.lt-ltb, Tests.le-ltb}
 use Rattle.reader.proofs.Chain.{chain, passed, failed}
 use Rattle.reader.proofs.bytes.below.Statement.{statement}
 use Rattle.reader.proofs.bytes.below.Tie as tie

@@ -1,7 +1,6 @@
 -- A byte is read where one is left at the place.
 use borrow.Author.Needs.{needs}
-use lib.ListN.{drop-of-length-le}
-use lib.Seq.{drop-cons}
+use lib.{ListN.drop-of-length-le, Seq.drop-cons}
 use Rattle.reader.proofs.bytes.byte_at.Statement.{statement}
 use Rattle.reader.proofs.bytes.byte_at.Tie as tie
 

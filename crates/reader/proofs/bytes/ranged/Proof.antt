@@ -1,6 +1,5 @@
 -- A byte that passes both tests is given on; any other stops the cursor, and the value is then the least.
-use borrow.Author.Needs.{needs}
-use borrow.Author.Tests.{le-leb, lt-leb}
+use borrow.Author.{Needs.needs, Tests.le-leb, Tests.lt-leb}
 use mathlib.Core.Logic.{⊎-elim}
 use Rattle.reader.proofs.Chain.{chain, passed, failed, over}
 use Rattle.reader.proofs.bytes.ranged.Statement.{statement}

@@ -1,8 +1,7 @@
 -- The value that was read lies at its place.
 use native.Mathlib.Omega.{arith}
 use Rattle.reader.specs.Layout.{Any}
-use Rattle.reader.proofs.Keep.{stored}
-use Rattle.reader.proofs.Words.{value-read}
+use Rattle.reader.proofs.{Keep.stored, Words.value-read}
 use borrow.Author.Needs.{needs}
 use Rattle.reader.proofs.fields.value.Statement.{statement}
 use Rattle.reader.proofs.fields.value.Tie as tie

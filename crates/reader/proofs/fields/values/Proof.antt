@@ -2,8 +2,7 @@
 use native.Mathlib.Omega.{arith}
 use Prim.Native.Nat.{_-_}
 use Rattle.reader.specs.Layout.{valueLayout}
-use Rattle.reader.proofs.Section.{Filled, none, more, whole}
-use Rattle.reader.proofs.Words.{value-local}
+use Rattle.reader.proofs.{Section.Filled, Section.none, Section.more, Section.whole, Words.value-local}
 use Rattle.reader.proofs.fields.values.Statement.{statement}
 use Rattle.reader.proofs.fields.values.Tie as tie
 
