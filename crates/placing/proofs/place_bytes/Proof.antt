@@ -29,7 +29,7 @@ loop-again c =
       omega arith,
       omega arith,
       bytes-join (l .i) (l .i + 1) (l .inv .0) (omega arith) (l .inv .2) (⊎-elim
-          (λ w. rw (w .2) (byte-fixed (l .i) (w .1 .result) (l .inv .2 .long) (omega arith) (omega (arith, w .0 .taken)) (rw e at (w .1 .ensures))))
+          (λ w. rw (w .2) (byte-fixed (l .i) _ (w .1 .result) (l .inv .2 .long) (omega arith) (omega (arith, w .0 .taken)) (rw e at (w .1 .ensures)) (omega arith)))
           (λ w. rw (w .1) (byte-low (l .i) (l .inv .2 .long) (omega (arith, w .0 .left)))) (c .if1 .came)),
     )
 
