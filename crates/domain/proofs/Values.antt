@@ -72,4 +72,5 @@ pub heap-room : {a b : List ℕ} {n m : ℕ} (heap : List ℕ) (k : ℕ) → Wel
     → Inserted a b n (heapValues (drop k (heapIn heap))) m → Room b m 5
 heap-room heap k formed l h r p =
     inserted-room 5 r p
-    (omega (arith, heap-length (drop k (heapIn heap)) (λ here m. formed .fields-few here (rw (take-append-drop k (heapIn heap)) at (Memᴰ·append-right (take k (heapIn heap)) m))), length-drop k (heapIn heap), heap-count heap, formed .records-few))
+    (let few = heap-length (drop k (heapIn heap)) (λ here m. formed .fields-few here (rw (take-append-drop k (heapIn heap)) at (Memᴰ·append-right (take k (heapIn heap)) m))) in
+    omega (arith, few, length-drop k (heapIn heap), heap-count heap, formed .records-few))

@@ -85,7 +85,8 @@ loop-again c =
       small c,
       (
         λ p. rw e (calls-step (g .rules .now) (g .rule) (l .loop .c) h .0 (l .loop .inv .2 .0 p) .rest),
-        λ p. l .loop .inv .2 .1 (calls-step (g .rules .now) (g .rule) (l .loop .c) h .1 (record { line = called .before .calls-line .ensures .so (called .if1 .taken); apart = rw e at (told-apart (c .before .shares .ensures) (c .if2 .left)); rest = rw e at p })),
+        λ p. l .loop .inv .2 .1 (calls-step (g .rules .now) (g .rule) (l .loop .c) h .1
+            (record { line = called .before .calls-line .ensures .so (called .if1 .taken); apart = rw e at (told-apart (c .before .shares .ensures) (c .if2 .left)); rest = rw e at p })),
       ),
     )
 
