@@ -1,5 +1,8 @@
 // Heap and query as they are read, in values, by names; and the entries of the heap in positions, to be written. A record is named by its
 // number.
+use super::HeapBlock;
+use super::PlacedHeap;
+use super::QueryBlock;
 ghost use mathlib.Core.Path.{_≡_};
 ghost use Prim.Native.Nat.{_+_, _≤_, _<_};
 ghost use lib.ListN.{set};
@@ -15,13 +18,13 @@ fn wide(x: u32) -> usize
 // ---- the heap
 
 // How many records there are.
-pub fn record_count(heap: &[u32; 97]) -> usize
+pub fn record_count(heap: &HeapBlock) -> usize
     ensures { λ r. ⌜ (r ≡ recordCount (now (heap .entry))) × (r < 4294967296) ⌝ }
 {
     wide(heap[0])
 }
 
-pub fn record_address(heap: &[u32; 97], k: usize) -> u32
+pub fn record_address(heap: &HeapBlock, k: usize) -> u32
     requires { ⌜ k < 16 ⌝ }
     ensures { λ r. ⌜ r ≡ recordAddress (now (heap .entry)) k ⌝ }
 {
@@ -29,14 +32,14 @@ pub fn record_address(heap: &[u32; 97], k: usize) -> u32
 }
 
 // How many fields record k has.
-pub fn record_size(heap: &[u32; 97], k: usize) -> usize
+pub fn record_size(heap: &HeapBlock, k: usize) -> usize
     requires { ⌜ k < 16 ⌝ }
     ensures { λ r. ⌜ (r ≡ recordSize (now (heap .entry)) k) × (r < 4294967296) ⌝ }
 {
     wide(heap[1 + 6 * k + 1])
 }
 
-pub fn record_field(heap: &[u32; 97], k: usize, j: usize) -> u32
+pub fn record_field(heap: &HeapBlock, k: usize, j: usize) -> u32
     requires { ⌜ (k < 16) × (j < 4) ⌝ }
     ensures { λ r. ⌜ r ≡ recordField (now (heap .entry)) k j ⌝ }
 {
@@ -45,7 +48,7 @@ pub fn record_field(heap: &[u32; 97], k: usize, j: usize) -> u32
 
 // ---- the query
 
-pub fn query_predicate(query: &[u32; 6]) -> u8
+pub fn query_predicate(query: &QueryBlock) -> u8
     requires { ⌜ queryPredicate (now query) < 256 ⌝ }
     ensures { λ r. ⌜ r ≡ queryPredicate (now (query .entry)) ⌝ }
 {
@@ -53,7 +56,7 @@ pub fn query_predicate(query: &[u32; 6]) -> u8
 }
 
 // The values of the query.
-pub fn query_values(query: &[u32; 6]) -> &[u32]
+pub fn query_values(query: &QueryBlock) -> &[u32]
     requires { ⌜ queryCount (now query) ≤ 4 ⌝ }
     ensures { λ r. ⌜ now r ≡ queryValues (now (query .entry)) ⌝ }
 {
@@ -64,27 +67,27 @@ pub fn query_values(query: &[u32; 6]) -> &[u32]
 
 // ---- the heap in positions, entry by entry
 
-pub fn write_count(records: &mut [u8; 97], count: u8)
+pub fn write_count(records: &mut PlacedHeap, count: u8)
     ensures { λ _. ⌜ now (records .exit) ≡ set (now (records .entry)) 0 count ⌝ }
 {
     records[0] = count;
 }
 
-pub fn write_address(records: &mut [u8; 97], k: usize, address: u8)
+pub fn write_address(records: &mut PlacedHeap, k: usize, address: u8)
     requires { ⌜ k < 16 ⌝ }
     ensures { λ _. ⌜ now (records .exit) ≡ set (now (records .entry)) (recordPlace k) address ⌝ }
 {
     records[1 + 6 * k] = address;
 }
 
-pub fn write_size(records: &mut [u8; 97], k: usize, size: u8)
+pub fn write_size(records: &mut PlacedHeap, k: usize, size: u8)
     requires { ⌜ k < 16 ⌝ }
     ensures { λ _. ⌜ now (records .exit) ≡ set (now (records .entry)) (recordPlace k + 1) size ⌝ }
 {
     records[1 + 6 * k + 1] = size;
 }
 
-pub fn write_field(records: &mut [u8; 97], k: usize, j: usize, field: u8)
+pub fn write_field(records: &mut PlacedHeap, k: usize, j: usize, field: u8)
     requires { ⌜ (k < 16) × (j < 4) ⌝ }
     ensures { λ _. ⌜ now (records .exit) ≡ set (now (records .entry)) (recordPlace k + 2 + j) field ⌝ }
 {

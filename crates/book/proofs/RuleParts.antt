@@ -7,7 +7,7 @@ use borrow.Author.Tests.{le-leb, lt-leb}
 use lib.{Dec.leb, ListN.getD}
 use Rattle.semantics.specs.{RuleSet.Rule, Reader.Reader, Reader.onward, Reader._>>=_, Reader.byte, Reader.ensure, Reader.times}
 use Rattle.semantics.specs.Formats.{named, pure, atom, call, body}
-use Rattle.block.specs.Layout.{ruleIn}
+use Rattle.block.specs.Layout.{ruleIn, ruleSize}
 use Rattle.reader.specs.{Cursor.Yields, Cursor.rangedByte, Layout.Layout, Layout.KeptOutside, Layout.Fills, Layout.many}
 use Rattle.book.specs.BookLayout.{countLayout, nameLayout, pureLayout, atomLayout, callLayout, Header, aritiesIn, Body, ruleLayout}
 use Rattle.reader.specs.declared.Cursor.{Cursor}
@@ -21,19 +21,19 @@ module _ (n at : ℕ) {bytes : List ℕ} {c c₁ c₂ c₃ c₄ c₅ : Cursor} {
     (atoms : Fills (many (getD b₃ (at + 3) 0) (atomLayout n)) (at + 32) bytes c₃ b₃ b₄ c₄)
     (count₃ : Fills (countLayout 0 3) (at + 4) bytes c₄ b₄ b₅ c₅) where
   -- up to the calls
-  pub kept₀₅ : KeptOutside (at + 2) (at + 72) b b₅
+  pub kept₀₅ : KeptOutside (at + 2) (at + ruleSize) b b₅
   kept₀₅ =
       let few₁ = count₁ .sized .high in
       let few₂ = count₂ .sized .high in
-      let k₂ = kept-both (at + 2) (at + 72) (count₁ .kept) (pures .kept) (omega arith) in
-      let k₃ = kept-both (at + 2) (at + 72) k₂ (count₂ .kept) (omega arith) in
-      let k₄ = kept-both (at + 2) (at + 72) k₃ (atoms .kept) (omega arith) in
-      kept-both (at + 2) (at + 72) k₄ (count₃ .kept) (omega arith)
+      let k₂ = kept-both (at + 2) (at + ruleSize) (count₁ .kept) (pures .kept) (omega arith) in
+      let k₃ = kept-both (at + 2) (at + ruleSize) k₂ (count₂ .kept) (omega arith) in
+      let k₄ = kept-both (at + 2) (at + ruleSize) k₃ (atoms .kept) (omega arith) in
+      kept-both (at + 2) (at + ruleSize) k₄ (count₃ .kept) (omega arith)
 
   module _ {c₆ : Cursor} {b₆ : List ℕ} (header : Header b) (low : 16 ≤ at)
       (calls : Fills (many (getD b₅ (at + 4) 0) (callLayout (aritiesIn b₅) n)) (at + 56) bytes c₅ b₅ b₆ c₆) where
-    kept₀₆ : KeptOutside (at + 2) (at + 72) b b₆
-    kept₀₆ = kept-both (at + 2) (at + 72) kept₀₅ (calls .kept) (omega (arith, count₃ .sized .high))
+    kept₀₆ : KeptOutside (at + 2) (at + ruleSize) b b₆
+    kept₀₆ = kept-both (at + 2) (at + ruleSize) kept₀₅ (calls .kept) (omega (arith, count₃ .sized .high))
 
     -- the counts, the conditions and the atoms lie apart from what is written after them
     m₃ : getD b₆ (at + 4) 0 ≡ getD b₅ (at + 4) 0
@@ -119,7 +119,7 @@ pub rule-fills : (at : ℕ) {bytes : List ℕ} {c c₁ c₂ c₃ : Cursor} {b b�
     → Body at (getD b₁ (8 + getD b₁ at 0) 0 + getD b₂ (at + 1) 0) bytes c₂ b₂ b₃ c₃ → Fills (ruleLayout (aritiesIn b)) at bytes c b b₃ c₃
 rule-fills at {bytes} {c₂ = c₂} {c₃ = c₃} {b} {b₁} {b₂} {b₃} header low name bound rest =
     let few : getD b₁ (8 + getD b₁ at 0) 0 ≤ 4 = arity-few at header low name in
-    let k = kept-both at (at + 72) (name .kept) (bound .kept) (omega arith) in
+    let k = kept-both at (at + ruleSize) (name .kept) (bound .kept) (omega arith) in
     let e : aritiesIn b₂ ≡ aritiesIn b = arities-kept k low (header .few) in
     let h : getD b₂ at 0 ≡ getD b₁ at 0 = bound .kept .same at (inl (omega arith)) in
     let n : getD b₁ (8 + getD b₁ at 0) 0 ≡ getD (aritiesIn b) (getD b₁ at 0) 0 = sym (arity-read at header low name) in
@@ -130,5 +130,5 @@ rule-fills at {bytes} {c₂ = c₂} {c₃ = c₃} {b} {b₁} {b₂} {b₃} heade
           (turn (ap (λ (m : ℕ). rangedByte 1 2 0 (8 - m)) n) (bound .reads))
           (rw (e, h, n) at (rest .reads)));
       sized = rest .sized;
-      kept = kept-both at (at + 72) k (rest .kept) (omega arith);
+      kept = kept-both at (at + ruleSize) k (rest .kept) (omega arith);
     }

@@ -26,6 +26,7 @@ use reader::bytes::byte;
 use reader::bytes::finish;
 use reader::bytes::ranged;
 use reader::bytes::stop;
+ghost use Rattle.block.specs.Layout.{atomRoom, callSize, firstArity, firstRule, pureSize, ruleSetSize, ruleSize};
 ghost use mathlib.Core.Path.{_≡_};
 ghost use Prim.Native.Nat.{_+_, _*_, _≤_, _<_};
 ghost use lib.ListN.{length};
@@ -124,7 +125,7 @@ fn terms(s: &[u8], c: Cursor, block: &mut [u8], from: usize, count: u8, n: u8) -
 
 // A pure condition: its kind and two terms.
 fn pure(s: &[u8], c: Cursor, block: &mut [u8], at: usize, n: u8) -> Cursor
-    requires { ⌜ (n ≤ 8) × (at + 3 ≤ length (now block)) ⌝ }
+    requires { ⌜ (n ≤ 8) × (at + pureSize ≤ length (now block)) ⌝ }
     ensures { λ r. ⌜ Fills (pureLayout n) at (now (s .entry)) c (now (block .entry)) (now (block .exit)) r ⌝ }
 {
     let left = named(s, c, block, at, KINDS);
@@ -134,7 +135,7 @@ fn pure(s: &[u8], c: Cursor, block: &mut [u8], at: usize, n: u8) -> Cursor
 
 // `count` pure conditions.
 fn pures(s: &[u8], c: Cursor, block: &mut [u8], from: usize, count: u8, n: u8) -> Cursor
-    requires { ⌜ (n ≤ 8) × (from + 3 * count ≤ length (now block)) ⌝ }
+    requires { ⌜ (n ≤ 8) × (from + pureSize * count ≤ length (now block)) ⌝ }
     ensures { λ r. ⌜ Fills (many count (pureLayout n)) from (now (s .entry)) c (now (block .entry)) (now (block .exit)) r ⌝ }
 {
     let most = count as usize;
@@ -149,7 +150,7 @@ fn pures(s: &[u8], c: Cursor, block: &mut [u8], from: usize, count: u8, n: u8) -
 
 // A points-to atom: its address, a variable, and 0 to 4 fields.
 fn atom(s: &[u8], c: Cursor, block: &mut [u8], at: usize, n: u8) -> Cursor
-    requires { ⌜ (n ≤ 8) × (at + 6 ≤ length (now block)) ⌝ }
+    requires { ⌜ (n ≤ 8) × (at + atomRoom ≤ length (now block)) ⌝ }
     ensures { λ r. ⌜ Fills (atomLayout n) at (now (s .entry)) c (now (block .entry)) (now (block .exit)) r ⌝ }
 {
     let number = named(s, c, block, at, n);
@@ -160,7 +161,7 @@ fn atom(s: &[u8], c: Cursor, block: &mut [u8], at: usize, n: u8) -> Cursor
 
 // `count` points-to atoms.
 fn atoms(s: &[u8], c: Cursor, block: &mut [u8], from: usize, count: u8, n: u8) -> Cursor
-    requires { ⌜ (n ≤ 8) × (from + 6 * count ≤ length (now block)) ⌝ }
+    requires { ⌜ (n ≤ 8) × (from + atomRoom * count ≤ length (now block)) ⌝ }
     ensures { λ r. ⌜ Fills (many count (atomLayout n)) from (now (s .entry)) c (now (block .entry)) (now (block .exit)) r ⌝ }
 {
     let most = count as usize;
@@ -175,7 +176,7 @@ fn atoms(s: &[u8], c: Cursor, block: &mut [u8], from: usize, count: u8, n: u8) -
 
 // A call: a predicate, and a term for each of its arguments.
 fn call(s: &[u8], c: Cursor, block: &mut [u8], at: usize, n: u8) -> Cursor
-    requires { ⌜ (n ≤ 8) × Header (now block) × (16 ≤ at) × (at + 5 ≤ length (now block)) ⌝ }
+    requires { ⌜ (n ≤ 8) × Header (now block) × (firstRule ≤ at) × (at + callSize ≤ length (now block)) ⌝ }
     ensures { λ r. ⌜ Fills (callLayout (aritiesIn (now (block .entry))) n) at (now (s .entry)) c (now (block .entry)) (now (block .exit)) r ⌝ }
 {
     let predicates = block[PREDICATES];
@@ -187,7 +188,7 @@ fn call(s: &[u8], c: Cursor, block: &mut [u8], at: usize, n: u8) -> Cursor
 
 // `count` calls.
 fn calls(s: &[u8], c: Cursor, block: &mut [u8], from: usize, count: u8, n: u8) -> Cursor
-    requires { ⌜ (n ≤ 8) × Header (now block) × (16 ≤ from) × (from + 5 * count ≤ length (now block)) ⌝ }
+    requires { ⌜ (n ≤ 8) × Header (now block) × (firstRule ≤ from) × (from + callSize * count ≤ length (now block)) ⌝ }
     ensures { λ r. ⌜ Fills (many count (callLayout (aritiesIn (now (block .entry))) n)) from (now (s .entry)) c (now (block .entry)) (now (block .exit)) r ⌝ }
 {
     let most = count as usize;
@@ -202,7 +203,7 @@ fn calls(s: &[u8], c: Cursor, block: &mut [u8], from: usize, count: u8, n: u8) -
 
 // The rest of a rule over `n` variables: its pure conditions, its points-to atoms and its calls.
 fn body(s: &[u8], c: Cursor, block: &mut [u8], at: usize, n: u8) -> Cursor
-    requires { ⌜ (n ≤ 8) × Header (now block) × (16 ≤ at) × (at + 72 ≤ length (now block)) ⌝ }
+    requires { ⌜ (n ≤ 8) × Header (now block) × (firstRule ≤ at) × (at + ruleSize ≤ length (now block)) ⌝ }
     ensures { λ r. ⌜ Body at n (now (s .entry)) c (now (block .entry)) (now (block .exit)) r ⌝ }
 {
     let c = count(s, c, block, at + PURES, 0, MOST_PURES);
@@ -218,7 +219,7 @@ fn body(s: &[u8], c: Cursor, block: &mut [u8], at: usize, n: u8) -> Cursor
 
 // A rule: head, number of bound variables, and body. Head and bound variables are at most 8 together.
 fn rule(s: &[u8], c: Cursor, block: &mut [u8], at: usize) -> Cursor
-    requires { ⌜ Header (now block) × (16 ≤ at) × (at + 72 ≤ length (now block)) ⌝ }
+    requires { ⌜ Header (now block) × (firstRule ≤ at) × (at + ruleSize ≤ length (now block)) ⌝ }
     ensures { λ r. ⌜ Fills (ruleLayout (aritiesIn (now (block .entry)))) at (now (s .entry)) c (now (block .entry)) (now (block .exit)) r ⌝ }
 {
     let predicates = block[PREDICATES];
@@ -232,7 +233,7 @@ fn rule(s: &[u8], c: Cursor, block: &mut [u8], at: usize) -> Cursor
 
 // `count` rules.
 fn rules(s: &[u8], c: Cursor, block: &mut [u8], from: usize, count: u8) -> Cursor
-    requires { ⌜ Header (now block) × (16 ≤ from) × (from + 72 * count ≤ length (now block)) ⌝ }
+    requires { ⌜ Header (now block) × (firstRule ≤ from) × (from + ruleSize * count ≤ length (now block)) ⌝ }
     ensures { λ r. ⌜ Fills (many count (ruleLayout (aritiesIn (now (block .entry))))) from (now (s .entry)) c (now (block .entry)) (now (block .exit)) r ⌝ }
 {
     let most = count as usize;
@@ -247,8 +248,8 @@ fn rules(s: &[u8], c: Cursor, block: &mut [u8], from: usize, count: u8) -> Curso
 
 // The numbers of arguments of the predicates.
 fn arities(s: &[u8], c: Cursor, block: &mut [u8], predicates: u8) -> Cursor
-    requires { ⌜ 8 + predicates ≤ length (now block) ⌝ }
-    ensures { λ r. ⌜ Fills (many predicates (countLayout 0 4)) 8 (now (s .entry)) c (now (block .entry)) (now (block .exit)) r ⌝ }
+    requires { ⌜ firstArity + predicates ≤ length (now block) ⌝ }
+    ensures { λ r. ⌜ Fills (many predicates (countLayout 0 4)) firstArity (now (s .entry)) c (now (block .entry)) (now (block .exit)) r ⌝ }
 {
     let most = predicates as usize;
     let mut next = c;
@@ -262,7 +263,7 @@ fn arities(s: &[u8], c: Cursor, block: &mut [u8], predicates: u8) -> Cursor
 
 // The whole rule set: the predicates' numbers of arguments, and the rules.
 fn rule_set(s: &[u8], c: Cursor, block: &mut [u8]) -> Cursor
-    requires { ⌜ length (now block) ≡ 1168 ⌝ }
+    requires { ⌜ length (now block) ≡ ruleSetSize ⌝ }
     ensures { λ r. ⌜ RuleSetFills (now (s .entry)) c (now (block .entry)) (now (block .exit)) r ⌝ }
 {
     let c = count(s, c, block, PREDICATES, 1, MOST_PREDICATES);
@@ -275,7 +276,7 @@ fn rule_set(s: &[u8], c: Cursor, block: &mut [u8]) -> Cursor
 
 // The book, into a block of 1,168 bytes.
 pub fn read_rules(book: &[u8], block: &mut [u8]) -> Ladder
-    requires { ⌜ length (now block) ≡ 1168 ⌝ }
+    requires { ⌜ length (now block) ≡ ruleSetSize ⌝ }
     ensures { λ r. ⌜ RulesRead (now (book .entry)) (now (block .entry)) (now (block .exit)) r ⌝ }
 {
     let c = rule_set(book, Cursor::At(0), block);

@@ -4,6 +4,8 @@ use super::line::positions_at;
 use super::line::rule_at;
 use super::rule::find_record;
 use super::rule::position;
+use block::PlacedHeap;
+use block::RuleBlock;
 use block::atom_count;
 use block::call_arity;
 use block::call_count;
@@ -34,7 +36,7 @@ fn bit(i: usize) -> u16
 }
 
 // The position of argument j of call c; 0 past the last.
-fn argument(rules: &[u8; 1168], rule: usize, c: usize, word: u64, j: usize) -> u8
+fn argument(rules: &RuleBlock, rule: usize, c: usize, word: u64, j: usize) -> u8
     requires { ⌜ Formed (now rules) rule × (c < callCount (now rules) rule) × (j < 4) ⌝ }
     ensures { λ r. ⌜ r ≡ getD (valuesOf (givenBy word) (callIn (now (rules .entry)) (callPlace rule c) .arguments)) j 0 ⌝ }
 {
@@ -45,7 +47,7 @@ fn argument(rules: &[u8; 1168], rule: usize, c: usize, word: u64, j: usize) -> u
 }
 
 // The fact of call c, for a subheap.
-fn call_fact(rules: &[u8; 1168], rule: usize, c: usize, word: u64, part: u16) -> u64
+fn call_fact(rules: &RuleBlock, rule: usize, c: usize, word: u64, part: u16) -> u64
     requires { ⌜ Formed (now rules) rule × (c < callCount (now rules) rule) ⌝ }
     ensures { λ r. ⌜ r ≡ code (callIn (now (rules .entry)) (callPlace rule c) .predicate) (valuesOf (givenBy word) (callIn (now (rules .entry)) (callPlace rule c) .arguments)) part ⌝ }
 {
@@ -60,7 +62,7 @@ fn call_fact(rules: &[u8; 1168], rule: usize, c: usize, word: u64, part: u16) ->
 
 // Whether a line is one before line k that has the fact of call c.
 fn calls_line(
-    rules: &[u8; 1168],
+    rules: &RuleBlock,
     rule: usize,
     c: usize,
     word: u64,
@@ -83,7 +85,7 @@ fn calls_line(
 
 // Whether the lines that line k calls are those of the rule's calls, and their subheaps, joined to the records used, make up the subheap
 // of its fact.
-fn calls_join(rules: &[u8; 1168], rule: usize, words: &[u64], k: usize, used: u16) -> bool
+fn calls_join(rules: &RuleBlock, rule: usize, words: &[u64], k: usize, used: u16) -> bool
     requires { ⌜ Formed (now rules) rule × (1 ≤ k) × (3 * k ≤ length (now words)) ⌝ }
     ensures { λ (r : Bool). ⌜ Told r (CallsOf (now (rules .entry)) rule (now (words .entry)) k used) ⌝ }
 {
@@ -112,7 +114,7 @@ fn calls_join(rules: &[u8; 1168], rule: usize, words: &[u64], k: usize, used: u1
 }
 
 // Whether the records of the rule's points-to atoms and the subheaps that line k calls make up the subheap of its fact.
-pub fn joined(rules: &[u8; 1168], rule: usize, records: &[u8; 97], words: &[u64], k: usize) -> bool
+pub fn joined(rules: &RuleBlock, rule: usize, records: &PlacedHeap, words: &[u64], k: usize) -> bool
     requires { ⌜ Formed (now rules) rule × (recordCount (now records) ≤ 16) × (1 ≤ k) × (3 * k ≤ length (now words)) ⌝ }
     ensures { λ (r : Bool). ⌜ Told r (JoinOf (now (rules .entry)) rule (now (records .entry)) (now (words .entry)) k) ⌝ }
 {

@@ -4,6 +4,8 @@ mod join;
 mod line;
 mod rule;
 
+use block::PlacedHeap;
+use block::RuleBlock;
 use block::rule_count;
 use block::rule_place;
 use block::variable_count;
@@ -27,9 +29,9 @@ ghost use Rattle.certificate.specs.Line.{InstanceIn, LineIn, Judges};
 
 // Whether line k is a ground instance of a rule.
 fn instance_holds(
-    rules: &[u8; 1168],
+    rules: &RuleBlock,
     rule: usize,
-    records: &[u8; 97],
+    records: &PlacedHeap,
     n: usize,
     words: &[u64],
     k: usize,
@@ -52,7 +54,7 @@ fn instance_holds(
 }
 
 // Whether line k holds.
-fn line_holds(rules: &[u8; 1168], records: &[u8; 97], n: usize, words: &[u64], k: usize) -> bool
+fn line_holds(rules: &RuleBlock, records: &PlacedHeap, n: usize, words: &[u64], k: usize) -> bool
     requires { ⌜ Ready (now rules) (now records) n × (1 ≤ k) × (3 * k ≤ length (now words)) ⌝ }
     ensures { λ (r : Bool). ⌜ Told r (LineIn (now (rules .entry)) (now (records .entry)) n (now (words .entry)) k) ⌝ }
 {
@@ -64,7 +66,7 @@ fn line_holds(rules: &[u8; 1168], records: &[u8; 97], n: usize, words: &[u64], k
 }
 
 // Whether the words meet the conditions for lines, and the last line has the fact `last`.
-pub fn check(rules: &[u8; 1168], records: &[u8; 97], n: usize, last: u64, words: &[u64]) -> bool
+pub fn check(rules: &RuleBlock, records: &PlacedHeap, n: usize, last: u64, words: &[u64]) -> bool
     requires { ⌜ Represents (now rules) (now records) n ⌝ }
     ensures { λ (r : Bool). ⌜ Judges (now (rules .entry)) (now (records .entry)) n last (now (words .entry)) r ⌝ }
 {

@@ -1,4 +1,6 @@
 // A rule of the block against the positions that a line's second word gives its variables: head, pure conditions, points-to atoms.
+use block::PlacedHeap;
+use block::RuleBlock;
 use block::atom_address;
 use block::atom_fields;
 use block::atom_size;
@@ -24,7 +26,7 @@ ghost use Rattle.semantics.specs.Fact.{code};
 ghost use Rattle.semantics.specs.Tree.{valueOf, valuesOf, Meets, asked};
 ghost use Rattle.words.specs.Entries.{entries};
 ghost use Rattle.words.specs.Subheap.{Told};
-ghost use Rattle.block.specs.Layout.{termIn, pureIn, atomIn, recordIn, headIn, headArity, pureCount, atomCount, recordCount, purePlace, atomPlace, recordPlace};
+ghost use Rattle.block.specs.Layout.{termIn, pureIn, atomIn, recordIn, headIn, headArity, pureCount, atomCount, recordCount, purePlace, atomPlace, recordPlace, heapSize, ruleSetSize};
 ghost use Rattle.block.specs.Ready.{Formed};
 ghost use Rattle.certificate.specs.Line.{givenBy, PuresHold, FoundRecord};
 
@@ -60,7 +62,7 @@ fn head_argument(count: usize, word: u64, j: usize) -> u8
 }
 
 // The fact of the head, for a subheap.
-pub fn head_fact(rules: &[u8; 1168], rule: usize, word: u64, part: u16) -> u64
+pub fn head_fact(rules: &RuleBlock, rule: usize, word: u64, part: u16) -> u64
     requires { ⌜ Formed (now rules) rule ⌝ }
     ensures { λ r. ⌜ r ≡ code (headIn (now (rules .entry)) rule) (take (headArity (now (rules .entry)) rule) (givenBy word)) part ⌝ }
 {
@@ -75,7 +77,7 @@ pub fn head_fact(rules: &[u8; 1168], rule: usize, word: u64, part: u16) -> u64
 }
 
 // Whether pure condition k holds.
-fn pure_holds(rules: &[u8; 1168], rule: usize, k: usize, word: u64) -> bool
+fn pure_holds(rules: &RuleBlock, rule: usize, k: usize, word: u64) -> bool
     requires { ⌜ Formed (now rules) rule × (k < pureCount (now rules) rule) ⌝ }
     ensures { λ (r : Bool). ⌜ Told r (Meets (givenBy word) (pureIn (now (rules .entry)) (purePlace rule k))) ⌝ }
 {
@@ -88,7 +90,7 @@ fn pure_holds(rules: &[u8; 1168], rule: usize, k: usize, word: u64) -> bool
 }
 
 // Whether all pure conditions hold.
-pub fn pures_hold(rules: &[u8; 1168], rule: usize, word: u64) -> bool
+pub fn pures_hold(rules: &RuleBlock, rule: usize, word: u64) -> bool
     requires { ⌜ Formed (now rules) rule ⌝ }
     ensures { λ (r : Bool). ⌜ Told r (PuresHold (now (rules .entry)) rule word) ⌝ }
 {
@@ -106,14 +108,14 @@ pub fn pures_hold(rules: &[u8; 1168], rule: usize, word: u64) -> bool
 
 // Whether so many fields of a record, from a place on, are the positions of so many terms.
 fn fields_match(
-    rules: &[u8; 1168],
+    rules: &RuleBlock,
     terms: usize,
     word: u64,
-    records: &[u8; 97],
+    records: &PlacedHeap,
     fields: usize,
     count: usize,
 ) -> bool
-    requires { ⌜ (terms + count ≤ 1168) × (fields + count ≤ 97) ⌝ }
+    requires { ⌜ (terms + count ≤ ruleSetSize) × (fields + count ≤ heapSize) ⌝ }
     ensures { λ (r : Bool). ⌜ Told r (entries (now (records .entry)) fields count ≡ valuesOf (givenBy word) (map termIn (entries (now (rules .entry)) terms count))) ⌝ }
 {
     let mut j = 0;
@@ -129,11 +131,11 @@ fn fields_match(
 
 // Whether record i is the one that points-to atom g asks for.
 fn record_matches(
-    rules: &[u8; 1168],
+    rules: &RuleBlock,
     rule: usize,
     g: usize,
     word: u64,
-    records: &[u8; 97],
+    records: &PlacedHeap,
     i: usize,
 ) -> bool
     requires { ⌜ Formed (now rules) rule × (g < atomCount (now rules) rule) × (i < 16) ⌝ }
@@ -158,11 +160,11 @@ fn record_matches(
 
 // The number of the record that points-to atom g takes, or the number of records where there is none.
 pub fn find_record(
-    rules: &[u8; 1168],
+    rules: &RuleBlock,
     rule: usize,
     g: usize,
     word: u64,
-    records: &[u8; 97],
+    records: &PlacedHeap,
 ) -> usize
     requires { ⌜ Formed (now rules) rule × (g < atomCount (now rules) rule) × (recordCount (now records) ≤ 16) ⌝ }
     ensures { λ r. ⌜ FoundRecord (now (records .entry)) (asked (givenBy word) (atomIn (now (rules .entry)) (atomPlace rule g))) r ⌝ }

@@ -4,7 +4,7 @@ use Prim.Native.Nat.{ℕ}
 use lib.ListN.{length}
 use Rattle.semantics.specs.{Reader.Result, Refusals.memorySize, Formats.Input, Formats.ladder, Formats.WellFormedInput, Served.Served}
 use Rattle.semantics.proofs.FormatsFacts.{ladder-read}
-use Rattle.block.specs.Layout.{inputIn}
+use Rattle.block.specs.Layout.{inputIn, ruleSetSize}
 use Rattle.formats.specs.Refusal.{Read}
 use Rattle.formats.proofs.Answers.{is-accepted, is-refused, accepted-long}
 use Rattle.reader.specs.declared.Ladder.{Ladder}
@@ -14,7 +14,7 @@ module _ {book snapshot question rules heap query : List ℕ} {r : Ladder} where
   pub well-formed : Read book snapshot question rules heap query r → r ≡ Accepted → WellFormedInput (inputIn rules heap query)
   well-formed h q = ladder-read book snapshot question (inputIn rules heap query) (is-accepted (rw q at h))
 
-  pub block-long : Read book snapshot question rules heap query r → r ≡ Accepted → length rules ≡ 1168
+  pub block-long : Read book snapshot question rules heap query r → r ≡ Accepted → length rules ≡ ruleSetSize
   block-long h q = accepted-long (rw q at h)
 
   module _ {Lends : Type 0} {Refuses : ℕ → Type 0} {Answered : Input → Type 0} where

@@ -1,6 +1,9 @@
 // The refusal of each book, snapshot and question in standard input, 0 where all is read. inputs.txt has them in base sixteen, with the
 // reason for each expected number; examples/pack.py makes the file stdin of it: for each case four sections, each after its length. The
 // first is text that stands before the number.
+use block::HEAP_SIZE;
+use block::QUERY_SIZE;
+use block::RULE_SET_SIZE;
 ghost use Prim.Native.Nat.{_≤_};
 ghost use lib.ListN.{length};
 use formats::Ladder;
@@ -10,9 +13,9 @@ use sections::section_at;
 
 // Prints the refusal, or 0.
 fn show(book: &[u8], snapshot: &[u8], question: &[u8]) {
-    let mut rules = [0u8; 1168];
-    let mut heap = [0u32; 97];
-    let mut query = [0u32; 6];
+    let mut rules = [0u8; RULE_SET_SIZE];
+    let mut heap = [0u32; HEAP_SIZE];
+    let mut query = [0u32; QUERY_SIZE];
     let answer = formats::read(book, snapshot, question, &mut rules, &mut heap, &mut query);
     io::write_all(STDOUT_FILENO, b" ");
     let n = match answer {

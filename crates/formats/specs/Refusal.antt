@@ -4,7 +4,7 @@ use Prim.Native.Nat.{ℕ}
 use lib.ListN.{length, getD}
 use Rattle.semantics.specs.Formats.{Query, readQuery, ladder}
 use Rattle.words.specs.Entries.{entries}
-use Rattle.block.specs.Layout.{inputIn}
+use Rattle.block.specs.Layout.{inputIn, ruleSetSize}
 use Rattle.reader.specs.Answer.{resultOf}
 use Rattle.reader.specs.declared.Ladder.{Ladder}
 
@@ -19,4 +19,4 @@ pub record QueryRead (arities question block block′ : List ℕ) (r : Ladder) :
 -- What `read` promises: the answer is the ladder's, and what is accepted is what the three blocks hold.
 pub record Read (book snapshot question rules heap query : List ℕ) (r : Ladder) : Type 0 where
   pub is : ladder book snapshot question ≡ resultOf r (inputIn rules heap query)
-  pub long : length rules ≡ 1168
+  pub long : length rules ≡ ruleSetSize

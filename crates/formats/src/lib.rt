@@ -1,6 +1,9 @@
 // From the bytes of book, snapshot and question to the decoded blocks, or to the number of the first fault met; and the house book.
 mod question;
 
+use block::HeapBlock;
+use block::QueryBlock;
+use block::RuleBlock;
 pub use reader::Ladder;
 ghost use mathlib.Core.Path.{_≡_};
 ghost use Rattle.semantics.specs.Contract.{house as houseBook};
@@ -11,9 +14,9 @@ pub fn read(
     book: &[u8],
     snapshot: &[u8],
     question: &[u8],
-    rules: &mut [u8; 1168],
-    heap: &mut [u32; 97],
-    query: &mut [u32; 6],
+    rules: &mut RuleBlock,
+    heap: &mut HeapBlock,
+    query: &mut QueryBlock,
 ) -> Ladder
     ensures { λ r. ⌜ Read (now (book .entry)) (now (snapshot .entry)) (now (question .entry)) (now (rules .exit)) (now (heap .exit)) (now (query .exit)) r ⌝ }
 {

@@ -3,6 +3,7 @@ use block::ARITIES;
 use block::FIRST_VALUE;
 use block::PREDICATE;
 use block::PREDICATES;
+use block::RuleBlock;
 use block::VALUES;
 use reader::Cursor;
 use reader::Ladder;
@@ -11,6 +12,7 @@ use reader::bytes::finish;
 use reader::bytes::ranged;
 use reader::fields::values;
 use reader::fields::wide;
+ghost use Rattle.block.specs.Layout.{querySize};
 ghost use mathlib.Core.Path.{_≡_};
 ghost use lib.ListN.{length};
 ghost use Rattle.book.specs.BookLayout.{aritiesIn, Header};
@@ -20,8 +22,8 @@ ghost use Rattle.formats.specs.Refusal.{QueryRead};
 const OFF: u8 = 9;
 
 // The question about these rules, into a block of 6 numbers.
-pub(crate) fn read_query(question: &[u8], rules: &[u8; 1168], query: &mut [u32]) -> Ladder
-    requires { ⌜ Header (now rules) × (length (now query) ≡ 6) ⌝ }
+pub(crate) fn read_query(question: &[u8], rules: &RuleBlock, query: &mut [u32]) -> Ladder
+    requires { ⌜ Header (now rules) × (length (now query) ≡ querySize) ⌝ }
     ensures { λ r. ⌜ QueryRead (aritiesIn (now (rules .entry))) (now (question .entry)) (now (query .entry)) (now (query .exit)) r ⌝ }
 {
     let predicates = rules[PREDICATES];

@@ -5,7 +5,7 @@ use lib.ListN.{length, getD, take}
 use Rattle.semantics.specs.{Lists._among_, Lists.Ascending, Domain.mostValues, Fact.position, Placed.placedRules, Placed.placedHeap}
 use Rattle.words.specs.Entries.{entries}
 use Rattle.domain.specs.Insertion.{Parts}
-use Rattle.block.specs.Layout.{recordPlace, recordAddress, recordSize, recordField, heapIn, ruleSetIn}
+use Rattle.block.specs.Layout.{recordPlace, recordAddress, recordSize, recordField, heapIn, ruleSetIn, ruleSetSize, heapSize}
 
 -- The first n values of the array ascend, and the listed values are among them: then each has one position.
 pub record Placeable (array : List ℕ) (n : ℕ) (values : List ℕ) : Type 0 where
@@ -22,13 +22,13 @@ pub record RecordPlaced (domain heap records : List ℕ) (k : ℕ) : Type 0 wher
 
 -- Record k was placed, and its entries are all that changed.
 pub record OnePlaced (domain heap before after : List ℕ) (k : ℕ) : Type 0 where
-  pub long : length after ≡ 97
+  pub long : length after ≡ heapSize
   pub placed : RecordPlaced domain heap after k
   pub others : (i : ℕ) → (i < recordPlace k) ⊎ (recordPlace (k + 1) ≤ i) → getD after i 0 ≡ getD before i 0
 
 -- The heap in positions.
 pub record HeapPlaced (domain heap records : List ℕ) : Type 0 where
-  pub long : length records ≡ 97
+  pub long : length records ≡ heapSize
   pub is : heapIn records ≡ placedHeap domain (heapIn heap)
 
 -- The query's values in positions; unused places are 0.
@@ -48,12 +48,12 @@ pub record BytePlaced (array : List ℕ) (n before after : ℕ) : Type 0 where
 
 -- The bytes from `start` up to `end` are placed, and nothing else is changed.
 pub record BytesPlaced (array : List ℕ) (n : ℕ) (before after : List ℕ) (start end : ℕ) : Type 0 where
-  pub long : length after ≡ 1168
+  pub long : length after ≡ ruleSetSize
   pub placed : (k : ℕ) → start ≤ k → k < end → BytePlaced array n (getD before k 0) (getD after k 0)
   pub front : (k : ℕ) → k < start → getD after k 0 ≡ getD before k 0
   pub rest : (k : ℕ) → end ≤ k → getD after k 0 ≡ getD before k 0
 
 -- The rules in positions.
 pub record RulesPlaced (domain before after : List ℕ) : Type 0 where
-  pub long : length after ≡ 1168
+  pub long : length after ≡ ruleSetSize
   pub is : ruleSetIn after ≡ placedRules domain (ruleSetIn before)

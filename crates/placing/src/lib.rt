@@ -1,4 +1,7 @@
 // Rules, heap and query in positions of the domain.
+use block::HeapBlock;
+use block::PlacedHeap;
+use block::RuleBlock;
 ghost use mathlib.Core.Path.{_≡_};
 ghost use mathlib.Core.List.{[], _∷_};
 ghost use Prim.Native.Nat.{_≤_, _<_};
@@ -6,7 +9,7 @@ ghost use lib.ListN.{length, take};
 ghost use Rattle.semantics.specs.RuleSet.{WellFormed, fixedValues};
 ghost use Rattle.semantics.specs.Heap.{WellFormedHeap, recordValues, heapValues};
 ghost use Rattle.semantics.specs.Fact.{position as positionIn};
-ghost use Rattle.block.specs.Layout.{recordPlace, recordSize, recordIn, heapIn, ruleSetIn};
+ghost use Rattle.block.specs.Layout.{recordPlace, recordSize, recordIn, heapIn, ruleSetIn, heapSize, ruleSetSize};
 ghost use Rattle.domain.specs.Insertion.{Room};
 ghost use Rattle.placing.specs.Placed.{Placeable, OnePlaced, HeapPlaced, QueryPlaced, Highest, BytesPlaced, RulesPlaced};
 
@@ -22,11 +25,11 @@ fn position(domain: &[u32; domain::MOST], n: usize, v: u32) -> u8
 fn place_record(
     domain: &[u32; domain::MOST],
     n: usize,
-    heap: &[u32; 97],
+    heap: &HeapBlock,
     k: usize,
-    records: &mut [u8; 97],
+    records: &mut PlacedHeap,
 )
-    requires { ⌜ (k < 16) × (recordSize (now heap) k ≤ 4) × (length (now records) ≡ 97) × Placeable (now domain) n (recordValues (recordIn (now heap) (recordPlace k))) ⌝ }
+    requires { ⌜ (k < 16) × (recordSize (now heap) k ≤ 4) × (length (now records) ≡ heapSize) × Placeable (now domain) n (recordValues (recordIn (now heap) (recordPlace k))) ⌝ }
     ensures { λ _. ⌜ OnePlaced (take n (now (domain .entry))) (now (heap .entry)) (now (records .entry)) (now (records .exit)) k ⌝ }
 {
     let fields = block::heap::record_size(heap, k);
@@ -42,8 +45,13 @@ fn place_record(
 }
 
 // Writes the heap in positions.
-pub fn place_heap(domain: &[u32; domain::MOST], n: usize, heap: &[u32; 97], records: &mut [u8; 97])
-    requires { ⌜ WellFormedHeap (heapIn (now heap)) × (length (now records) ≡ 97) × Placeable (now domain) n (heapValues (heapIn (now heap))) ⌝ }
+pub fn place_heap(
+    domain: &[u32; domain::MOST],
+    n: usize,
+    heap: &HeapBlock,
+    records: &mut PlacedHeap,
+)
+    requires { ⌜ WellFormedHeap (heapIn (now heap)) × (length (now records) ≡ heapSize) × Placeable (now domain) n (heapValues (heapIn (now heap))) ⌝ }
     ensures { λ _. ⌜ HeapPlaced (take n (now (domain .entry))) (now (heap .entry)) (now (records .exit)) ⌝ }
 {
     let count = block::heap::record_count(heap);
@@ -73,8 +81,8 @@ pub fn place_query(domain: &[u32; domain::MOST], n: usize, values: &[u32]) -> [u
 const FIXED: usize = 128;
 
 // The largest byte from a place up to another, or 0; with no way out before the end, so that the compiler can take several at a time.
-fn highest(rules: &[u8; 1168], start: usize, end: usize) -> u8
-    requires { ⌜ end ≤ 1168 ⌝ }
+fn highest(rules: &RuleBlock, start: usize, end: usize) -> u8
+    requires { ⌜ end ≤ ruleSetSize ⌝ }
     ensures { λ r. ⌜ Highest (now (rules .entry)) start end r ⌝ }
 {
     let mut most = 0;
@@ -92,11 +100,11 @@ fn highest(rules: &[u8; 1168], start: usize, end: usize) -> u8
 fn place_bytes(
     domain: &[u32; domain::MOST],
     n: usize,
-    rules: &mut [u8; 1168],
+    rules: &mut RuleBlock,
     start: usize,
     end: usize,
 )
-    requires { ⌜ Room (now domain) n 0 × (length (now rules) ≡ 1168) × (start ≤ end) × (end ≤ 1168) ⌝ }
+    requires { ⌜ Room (now domain) n 0 × (length (now rules) ≡ ruleSetSize) × (start ≤ end) × (end ≤ ruleSetSize) ⌝ }
     ensures { λ _. ⌜ BytesPlaced (now (domain .entry)) n (now (rules .entry)) (now (rules .exit)) start end ⌝ }
 {
     let mut i = start;
@@ -111,8 +119,8 @@ fn place_bytes(
 
 // Writes the fixed values of the rules in positions. Of the bytes that count, only theirs are `FIXED` or more; a rule without one is
 // passed over.
-pub fn place_rules(domain: &[u32; domain::MOST], n: usize, rules: &mut [u8; 1168])
-    requires { ⌜ WellFormed (ruleSetIn (now rules)) × (length (now rules) ≡ 1168) × Placeable (now domain) n (fixedValues (ruleSetIn (now rules))) ⌝ }
+pub fn place_rules(domain: &[u32; domain::MOST], n: usize, rules: &mut RuleBlock)
+    requires { ⌜ WellFormed (ruleSetIn (now rules)) × (length (now rules) ≡ ruleSetSize) × Placeable (now domain) n (fixedValues (ruleSetIn (now rules))) ⌝ }
     ensures { λ _. ⌜ RulesPlaced (take n (now (domain .entry))) (now (rules .entry)) (now (rules .exit)) ⌝ }
 {
     let count = block::rule_count(rules);

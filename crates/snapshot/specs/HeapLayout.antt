@@ -4,7 +4,7 @@ use Prim.Native.Nat.{ℕ, _+_, _≤_}
 use lib.ListN.{length, getD}
 use Rattle.semantics.specs.{Heap.Record, Heap.Heap, Reader.Reader, Reader._>>=_, Reader.give, Reader.word, Reader.counted}
 use Rattle.semantics.specs.Formats.{value, address, records, snapshot, readSnapshot}
-use Rattle.block.specs.Layout.{recordIn, heapIn}
+use Rattle.block.specs.Layout.{recordIn, heapIn, recordRoom}
 use Rattle.reader.specs.{Answer.resultOf, Cursor.Yields, Cursor.rangedByte, Cursor.Within}
 use Rattle.reader.specs.Layout.{Layout, KeptOutside, single, row, Any}
 use Rattle.reader.specs.declared.{Cursor.Cursor, Ladder.Ladder}
@@ -24,7 +24,7 @@ record-above low = do
   give (record { address = a; fields = fs })
 
 abbrev pub recordLayout : ℕ → Layout Record
-recordLayout low = record { read = record-above low; held = recordIn; Sized = λ block at. getD block (at + 1) 0 ≤ 4; width = 6; low = 0 }
+recordLayout low = record { read = record-above low; held = recordIn; Sized = λ block at. getD block (at + 1) 0 ≤ 4; width = recordRoom; low = 0 }
 
 -- Records in order, from the start of the heap.
 abbrev pub recordsLayout : ℕ → Layout Heap

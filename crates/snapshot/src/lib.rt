@@ -12,6 +12,7 @@ use reader::bytes::ranged;
 use reader::bytes::stop;
 use reader::fields::values;
 use reader::fields::wide;
+ghost use Rattle.block.specs.Layout.{firstRecord, heapSize, recordRoom};
 ghost use mathlib.Core.Path.{_≡_};
 ghost use Prim.Native.Nat.{_+_, _*_, _≤_, _<_};
 ghost use lib.ListN.{length};
@@ -57,7 +58,7 @@ fn size(s: &[u8], c: Cursor, heap: &mut [u32], at: usize, most: u8) -> Cursor
 
 // A record whose address was read, which is to be above `low`, and its 0 to 4 fields.
 fn after_address(s: &[u8], c: Cursor, v: u32, heap: &mut [u32], at: usize, low: u32) -> Cursor
-    requires { ⌜ at + 6 ≤ length (now heap) ⌝ }
+    requires { ⌜ at + recordRoom ≤ length (now heap) ⌝ }
     ensures { λ r. ⌜ AfterWord (recordLayout low) at (now (s .entry)) c v (now (heap .entry)) (now (heap .exit)) r ⌝ }
 {
     let c = address(c, v, heap, at, low);
@@ -68,7 +69,7 @@ fn after_address(s: &[u8], c: Cursor, v: u32, heap: &mut [u32], at: usize, low: 
 
 // A record: its address, and what follows it.
 fn record<'a>(r: Reader<'a>, heap: &mut [u32], at: usize, low: u32) -> Reader<'a>
-    requires { ⌜ at + 6 ≤ length (now heap) ⌝ }
+    requires { ⌜ at + recordRoom ≤ length (now heap) ⌝ }
     ensures { λ q. ⌜ (q .bytes ≡ r .entry .bytes) × Fills (recordLayout low) at (now (r .entry .bytes)) (r .entry .at) (now (heap .entry)) (now (heap .exit)) (q .at) ⌝ }
 {
     let w = r.word(ENDS);
@@ -81,7 +82,7 @@ fn record<'a>(r: Reader<'a>, heap: &mut [u32], at: usize, low: u32) -> Reader<'a
 
 // The same for a caller that has slice and cursor: the reader is carried from the address to the last field.
 fn heap_record(s: &[u8], c: Cursor, heap: &mut [u32], at: usize, low: u32) -> Cursor
-    requires { ⌜ at + 6 ≤ length (now heap) ⌝ }
+    requires { ⌜ at + recordRoom ≤ length (now heap) ⌝ }
     ensures { λ r. ⌜ Fills (recordLayout low) at (now (s .entry)) c (now (heap .entry)) (now (heap .exit)) r ⌝ }
 {
     let r = record(Reader { bytes: s, at: c }, heap, at, low);
@@ -90,8 +91,8 @@ fn heap_record(s: &[u8], c: Cursor, heap: &mut [u32], at: usize, low: u32) -> Cu
 
 // `count` records, each above the one before.
 fn records(s: &[u8], c: Cursor, heap: &mut [u32], count: u32) -> Cursor
-    requires { ⌜ 1 + 6 * count ≤ length (now heap) ⌝ }
-    ensures { λ r. ⌜ Fills (recordsLayout count) 1 (now (s .entry)) c (now (heap .entry)) (now (heap .exit)) r ⌝ }
+    requires { ⌜ firstRecord + recordRoom * count ≤ length (now heap) ⌝ }
+    ensures { λ r. ⌜ Fills (recordsLayout count) firstRecord (now (s .entry)) c (now (heap .entry)) (now (heap .exit)) r ⌝ }
 {
     let most = count as usize;
     let mut next = c;
@@ -107,7 +108,7 @@ fn records(s: &[u8], c: Cursor, heap: &mut [u32], count: u32) -> Cursor
 
 // The count of the records, and the records.
 fn counted_records(s: &[u8], c: Cursor, heap: &mut [u32]) -> Cursor
-    requires { ⌜ length (now heap) ≡ 97 ⌝ }
+    requires { ⌜ length (now heap) ≡ heapSize ⌝ }
     ensures { λ r. ⌜ HeapFills (now (s .entry)) c (now (heap .entry)) (now (heap .exit)) r ⌝ }
 {
     let c = size(s, c, heap, RECORDS, MOST_RECORDS);
@@ -117,7 +118,7 @@ fn counted_records(s: &[u8], c: Cursor, heap: &mut [u32]) -> Cursor
 
 // The snapshot's section.
 fn section<'a>(r: Reader<'a>, heap: &mut [u32]) -> Reader<'a>
-    requires { ⌜ length (now heap) ≡ 97 ⌝ }
+    requires { ⌜ length (now heap) ≡ heapSize ⌝ }
     ensures { λ q. ⌜ (q .bytes ≡ r .entry .bytes) × HeapFills (now (r .entry .bytes)) (r .entry .at) (now (heap .entry)) (now (heap .exit)) (q .at) ⌝ }
 {
     let next = counted_records(r.bytes, r.at, heap);
@@ -129,7 +130,7 @@ fn section<'a>(r: Reader<'a>, heap: &mut [u32]) -> Reader<'a>
 
 // The snapshot, into a block of 97 numbers: one reader goes through its section, and then nothing may be left.
 pub fn read_heap(snapshot: &[u8], heap: &mut [u32]) -> Ladder
-    requires { ⌜ length (now heap) ≡ 97 ⌝ }
+    requires { ⌜ length (now heap) ≡ heapSize ⌝ }
     ensures { λ r. ⌜ HeapRead (now (snapshot .entry)) (now (heap .entry)) (now (heap .exit)) r ⌝ }
 {
     let start = Reader {

@@ -4,7 +4,7 @@ use Prim.Native.Nat.{ℕ}
 use borrow.Author.Needs.{needs}
 use lib.ListN.{length}
 use Rattle.semantics.specs.{Reader.accepted, Formats.readRuleSet, Formats.readSnapshot, Formats.readQuery, Formats.ladder}
-use Rattle.block.specs.Layout.{ruleSetIn, heapIn, inputIn}
+use Rattle.block.specs.Layout.{ruleSetIn, heapIn, inputIn, ruleSetSize}
 use Rattle.reader.specs.Answer.{resultOf}
 use Rattle.reader.specs.declared.Ladder.{Ladder}
 use Rattle.reader.specs.declared.Ladder.the-variants.{Accepted, Refused}
@@ -16,7 +16,7 @@ use Rattle.formats.proofs.read.Tie as tie
 -- book and snapshot are read, and the question's answer is the ladder's
 all-read : (book snapshot question rules heap query : List ℕ) (r : Ladder) → readRuleSet book ≡ accepted (ruleSetIn rules)
     → readSnapshot snapshot ≡ accepted (heapIn heap) → readQuery (aritiesIn rules) question ≡ resultOf r (queryIn query)
-    → length rules ≡ 1168 → Read book snapshot question rules heap query r
+    → length rules ≡ ruleSetSize → Read book snapshot question rules heap query r
 unfolding ladder ruleSetIn inputIn
 all-read book snapshot question rules heap query Accepted e f g l = record { is = rw (e, f, g); long = l }
 all-read book snapshot question rules heap query (Refused n) e f g l = record { is = rw (e, f, g); long = l }

@@ -30,6 +30,7 @@ use Rattle.reader.proofs.Reader.Laws as reader-laws
 use Rattle.reader.proofs.bytes.finish as finish
 use Rattle.reader.proofs.bytes.finish.Symbol as finish-code
 use Rattle.reader.proofs.bytes.finish.Met as finish-met
+use Rattle.block.specs.Layout.{heapSize}
 use Rattle.snapshot.proofs.section as section
 use Rattle.snapshot.proofs.section.Symbol as section-code
 use Rattle.snapshot.proofs.section.Met as section-met
@@ -81,7 +82,7 @@ module _ {M : Type 1} (𝓤 : URA M) (H : Heap 𝓤) (A : Atoms 𝓤) (W : Given
   abbrev first : First .Ghost
   first = (((κ, (μ, tt)), (q, (p, tt)), tt, (made, (h, tt)), (readerVal s (At 0) ∷ [], (b ∷ [], tt))), tt)
 
-  to-section : length (h .now) ≡ 97 → ent 𝓤 Start (First .pre first)
+  to-section : length (h .now) ≡ heapSize → ent 𝓤 Start (First .pre first)
   to-section long =
       qed W ((‵ (flft κ q) ⊛ (‵ (flft μ p) ⊛ ‵ ftrue)) ∷ ‵ (owns (Bytes α ∷ MutSlice (named 1) μ u32 ∷ []) (s, (h, tt)) (here .0 .4)) ∷ []) ∵
       says ! long $ frame ! $ fsplit ! $ use1 W (‵ (reader.the-row α .own made (readerVal s (At 0) ∷ []))) (together α 𝓤 H A W s (At 0) at-start) $ fjoin ! $ done !
@@ -105,7 +106,7 @@ module _ {M : Type 1} (𝓤 : URA M) (H : Heap 𝓤) (A : Atoms 𝓤) (W : Given
         -- [the reader's token; the block's token; slice, cursor and number]
         move ! (0 ∷ 2 ∷ []) $ join ! $ nothing ! $ move ! (1 ∷ 0 ∷ []) $ join ! $ frame ! $ done !
 
-  walk : IsBytes α s → Is (MutSlice (named 1) μ u32) h (b ∷ []) → length (h .now) ≡ 97 → FmC 𝓤 H (W .laws) C → Triple 𝓤 (C section-code.name) First
+  walk : IsBytes α s → Is (MutSlice (named 1) μ u32) h (b ∷ []) → length (h .now) ≡ heapSize → FmC 𝓤 H (W .laws) C → Triple 𝓤 (C section-code.name) First
       → Triple 𝓤 (C finish-code.name) Then → ent 𝓤 Start (WpFn 𝓤 H C Λ code.function (sliceOf s ∷ b ∷ []) (Here .post here))
   walk bytes room long fm known-section known =
       let block = mut-slice-lawful 𝓤 H A W (named 1) μ u32 .typed h (b ∷ []) room .0 in
@@ -151,7 +152,7 @@ read-heap-spec 𝓤 H 𝓜 𝓖 𝓡 =
     let T = tables 𝓤 H 𝓜 𝓡 code.env in
     let W = givenOf 𝓤 H 𝓜 𝓖 in
     keeps 𝓤 H (𝓖 .A) read-heap.ended (read-heap.clauses 𝓤 H (𝓖 .A) (𝓜 .mem) (𝓡 .run)) (T .C) (T .Λ) code.function (λ κs. (slice-vals, (slice-vals, tt)))
-    (λ κs a. length (a .1 .0 .now) ≡ 97) (λ κs a g. id⊢ 𝓤 _) key.name (code.unfolded 𝓤 H 𝓜 𝓡)
+    (λ κs a. length (a .1 .0 .now) ≡ heapSize) (λ κs a g. id⊢ 𝓤 _) key.name (code.unfolded 𝓤 H 𝓜 𝓡)
     (λ κs. (shr-slice-tells (named 0) (κs .0) u8, (mut-slice-tells (named 1) (κs .1 .0) u32, tt)))
     (λ κs qs bounds a g long are.
     walk 𝓤 H (𝓖 .A) W (𝓜 .mem) (𝓡 .run) (T .C) (T .Λ) (κs .0) (κs .1 .0) (qs .0) (qs .1 .0) (a .0) (a .1 .0) (are .0) (are .1 .0) long

@@ -21,6 +21,7 @@ use Rattle.reader.proofs.Cursor as cursor
 use Rattle.reader.proofs.Cursor.Laws as cursor-laws
 use Rattle.reader.proofs.Reader as reader
 use Rattle.reader.proofs.Reader.Laws as reader-laws
+use Rattle.block.specs.Layout.{heapSize}
 use Rattle.snapshot.proofs.counted_records as below
 use Rattle.snapshot.proofs.counted_records.Symbol as below-code
 use Rattle.snapshot.proofs.counted_records.Met as below-met
@@ -59,7 +60,7 @@ module _ {M : Type 1} (𝓤 : URA M) (H : Heap 𝓤) (A : Atoms 𝓤) (W : Given
   Slice = Bytes α .own (d .bytes) (sliceOf (d .bytes) ∷ [])
 
   -- one copy of the slice goes to the call, the other stays
-  to-below : IsCursor (d .at) → length (h .now) ≡ 97 → ent 𝓤 Start (sep 𝓤 (There .pre there) (sem 𝓤 H A Slice))
+  to-below : IsCursor (d .at) → length (h .now) ≡ heapSize → ent 𝓤 Start (sep 𝓤 (There .pre there) (sem 𝓤 H A Slice))
   to-below is long =
       qed W ((‵ (flft κ q) ⊛ (‵ (flft μ p) ⊛ ‵ ftrue)) ∷ ‵ (owns (reader.the-row α ∷ MutSlice (named 1) μ u32 ∷ []) (d, (h, tt)) (here .0 .4)) ∷ []) ∵
       move ! (1 ∷ []) $ fsplit ! $ use1 W (‵ Slice ⊛ ‵ Slice) (apart α 𝓤 H A W d u) $ split ! $ move ! (2 ∷ []) $
@@ -68,7 +69,7 @@ module _ {M : Type 1} (𝓤 : URA M) (H : Heap 𝓤) (A : Atoms 𝓤) (W : Given
       move ! (1 ∷ 0 ∷ []) $ fjoin ! $ move ! (2 ∷ 0 ∷ []) $ use2 W (raw (There .pre there)) (goes 𝓤 H A below.ended
       (below.clauses 𝓤 H A mem run) W there (factI 𝓤 _ (emp 𝓤) long)) $ frame ! $ done !
 
-  walk : Is (reader.the-row α) d (u ∷ []) → Is (MutSlice (named 1) μ u32) h (b ∷ []) → length (h .now) ≡ 97 → FmC 𝓤 H (W .laws) C
+  walk : Is (reader.the-row α) d (u ∷ []) → Is (MutSlice (named 1) μ u32) h (b ∷ []) → length (h .now) ≡ heapSize → FmC 𝓤 H (W .laws) C
       → Triple 𝓤 (C below-code.name) There → ent 𝓤 Start (WpFn 𝓤 H C Λ code.function (u ∷ b ∷ []) (Here .post here))
   walk is room long fm known =
       let parts = parts-are α d u is in
@@ -108,7 +109,7 @@ section-spec 𝓤 H 𝓜 𝓖 𝓡 =
     let W = givenOf 𝓤 H 𝓜 𝓖 in
     keeps 𝓤 H (𝓖 .A) section.ended (section.clauses 𝓤 H (𝓖 .A) (𝓜 .mem) (𝓡 .run)) (T .C) (T .Λ) code.function
     (λ κs. (struct-laws.vals (reader.the-type (namedLft 2 0 tt κs)) (reader-laws.the-laws (namedLft 2 0 tt κs)), (slice-vals, tt)))
-    (λ κs a. length (a .1 .0 .now) ≡ 97) (λ κs a g. id⊢ 𝓤 _) key.name (code.unfolded 𝓤 H 𝓜 𝓡)
+    (λ κs a. length (a .1 .0 .now) ≡ heapSize) (λ κs a g. id⊢ 𝓤 _) key.name (code.unfolded 𝓤 H 𝓜 𝓡)
     (λ κs. (struct-laws.tells (reader.the-type (namedLft 2 0 tt κs)) (reader-laws.the-laws (namedLft 2 0 tt κs)), (mut-slice-tells (named 1) (κs .1 .0) u32, tt)))
     (λ κs qs bounds a g long are.
     walk 𝓤 H (𝓖 .A) W (𝓜 .mem) (𝓡 .run) (T .C) (T .Λ) (κs .0) (κs .1 .0) (qs .0) (qs .1 .0) (a .0) (a .1 .0) (are .0) (are .1 .0) long
