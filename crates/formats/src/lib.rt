@@ -32,7 +32,7 @@ pub fn read(
 // ---- the house book
 
 // H: a list segment is predicate 0, a ring 1, a queue with its free chain 2.
-pub const HOUSE: [u8; 46] = [
+const HOUSE: [u8; 46] = [
     3, // predicates
     2, // arguments of segment
     1, // of ring

@@ -10,7 +10,7 @@ ghost use Rattle.reader.specs.Cursor.{nextByte, Yields, stopped, Ranged,
 ghost use Rattle.reader.specs.Answer.{finished};
 
 // The byte at a place and where reading goes on; `short` is the fault where there is none.
-pub fn byte_at(s: &[u8], at: usize, short: u8) -> Entry
+fn byte_at(s: &[u8], at: usize, short: u8) -> Entry
     ensures { λ r. ⌜ r ≡ nextByte short (now (s .entry)) at ⌝ }
 {
     if at < s.len() {
