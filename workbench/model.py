@@ -1,0 +1,84 @@
+"""Books, pools and questions, once read: what text and bytes have in common. A value is a number, and a term the number of one of its
+rule's variables or NIL."""
+
+from dataclasses import dataclass
+
+# The format's limits (docs/FORMAT.md).
+MOST_PREDICATES = 8
+MOST_ARGUMENTS = 4
+MOST_RULES = 16
+MOST_VARIABLES = 8
+MOST_CONDITIONS = 8
+MOST_CELLS = 4
+MOST_FIELDS = 4
+MOST_CALLS = 3
+MOST_RECORDS = 16
+MOST_VALUE = 2**32 - 1
+
+NIL = 255
+EQUAL = 0
+UNEQUAL = 1
+
+
+@dataclass(frozen=True)
+class Predicate:
+    name: str
+    arguments: int
+
+
+@dataclass(frozen=True)
+class Condition:
+    kind: int
+    left: int
+    right: int
+
+
+@dataclass(frozen=True)
+class Cell:
+    address: int
+    fields: tuple[int, ...]
+
+
+@dataclass(frozen=True)
+class Call:
+    predicate: int
+    terms: tuple[int, ...]
+
+
+@dataclass(frozen=True)
+class Rule:
+    """`variables` are the names, the head's arguments first; `line` is the rule's line in the text, 0 where there is none."""
+
+    predicate: int
+    variables: tuple[str, ...]
+    conditions: tuple[Condition, ...] = ()
+    cells: tuple[Cell, ...] = ()
+    calls: tuple[Call, ...] = ()
+    line: int = 0
+
+
+@dataclass(frozen=True)
+class Book:
+    predicates: tuple[Predicate, ...]
+    rules: tuple[Rule, ...]
+
+
+@dataclass(frozen=True)
+class Record:
+    address: int
+    fields: tuple[int, ...]
+
+
+@dataclass(frozen=True)
+class Pool:
+    """The records by ascending address. `spellings` has the numbers that were not written in base ten, as they were written."""
+
+    records: tuple[Record, ...]
+    spellings: tuple[tuple[int, str], ...] = ()
+
+
+@dataclass(frozen=True)
+class Question:
+    predicate: int
+    values: tuple[int, ...]
+    spellings: tuple[tuple[int, str], ...] = ()
