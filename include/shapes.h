@@ -1,0 +1,41 @@
+/* The library for C, on memory that its caller lends. Link target/staticlib/libshapes.a, which `rt staticlib shapes` writes.
+ *
+ * Each call returns the refusal, 0 for none. The other numbers of its reply go through the pointers at its end, which are written on every
+ * way out and are 0 on a refusal.
+ *
+ * Refusals of both calls, the first fault that reading meets:
+ *   1 the book is too short                          5 the snapshot is too short
+ *   2 a count in the book is out of its range        6 a count in the snapshot is out of its range
+ *   3 a byte in the book is no name                  7 an address is 0, or the addresses do not ascend
+ *   4 the book is too long                           8 the snapshot is too long
+ *   9 the question is not one about this book
+ * Of shapes_decide alone:
+ *  10 the table has 0 or more than 65,535 words, or the space is not three times as long
+ *  11 there are more facts than the table has words
+ * README.md says what to do about each, docs/FORMAT.md has the bytes of book, snapshot and question and the words of table and space.
+ *
+ * Lengths count bytes, or words of 64 bits. Nothing is allocated or kept, and nothing outside what is lent is read or written. What has no
+ * length may have any pointer that is not null and is aligned for its type; no two blocks that are written may overlap each other or one
+ * that is read. The calls share nothing, so several threads may call them at once, each with memory of its own.
+ */
+#ifndef SHAPES_H
+#define SHAPES_H
+
+#include <stddef.h>
+#include <stdint.h>
+
+/* The engine: whether the whole heap of the snapshot fits the question (verdict 1) or does not (0).
+ * Refusals 1 to 10 leave table and space as they were; 11 leaves both all 0. Otherwise the table has all facts, as many as `facts` says, in
+ * the order of the `rounds` rounds that gave one, and then 0. On fits the space has an unfolding of `lines` lines, three words each, and
+ * then 0; on does not fit it is all 0. */
+uint64_t shapes_decide(const uint8_t *book, size_t book_len, const uint8_t *snapshot, size_t snapshot_len,
+                       const uint8_t *question, size_t question_len,
+                       uint64_t *table, size_t table_len, uint64_t *space, size_t space_len,
+                       uint64_t *verdict, uint64_t *facts, uint64_t *rounds, uint64_t *lines);
+
+/* The check: whether the words are an unfolding of the question for the whole heap (taken 1) or not (0), of 1 to 65,535 lines. */
+uint64_t shapes_check(const uint8_t *book, size_t book_len, const uint8_t *snapshot, size_t snapshot_len,
+                      const uint8_t *question, size_t question_len,
+                      const uint64_t *words, size_t words_len, uint64_t *taken);
+
+#endif
