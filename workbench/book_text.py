@@ -1,0 +1,135 @@
+"""Books as text: `parse_book` gives predicates and names their numbers, `write_book` writes any book."""
+
+from itertools import groupby
+
+from workbench.book_syntax import ORDINALS, Block, Case, parse_blocks
+from workbench.lexer import Token, Tokens, shown
+from workbench.mistake import Mistake
+from workbench.model import (
+    EQUAL, MOST_PREDICATES, MOST_RULES, NIL, UNEQUAL, Book, Call, Cell, Condition, Predicate, Rule,
+)
+from workbench.nearest import count, suggestion
+
+KINDS = {"=": EQUAL, "!=": UNEQUAL}
+
+# A block with one case stands on one line up to this length.
+ONE_LINE = 100
+
+
+def parse_book(text: str, source: str) -> Book:
+    tokens = Tokens(text, source)
+    blocks = parse_blocks(tokens)
+    predicates = _predicates(tokens, blocks)
+    numbers = {name: number for number, name in enumerate(predicates)}
+    rules: list[Rule] = []
+    for block in blocks:
+        for case in block.cases:
+            if len(rules) == MOST_RULES:
+                ordinal = ORDINALS[MOST_RULES + 1]
+                raise tokens.mistake(f"this is the {ordinal} case of the book: a book has at most {MOST_RULES} cases", case.start)
+            rules.append(_rule(tokens, case, numbers[block.name.text], numbers, predicates))
+    return Book(tuple(Predicate(name, len(first)) for name, first in predicates.items()), tuple(rules))
+
+
+def _predicates(tokens: Tokens, blocks: list[Block]) -> dict[str, list[Token]]:
+    """The predicates in the order of their first blocks, each with its arguments where they first stand."""
+    found: dict[str, list[Token]] = {}
+    for block in blocks:
+        name = block.name.text
+        if name not in found and len(found) == MOST_PREDICATES:
+            limit = f"a book has at most {MOST_PREDICATES} predicates"
+            raise tokens.mistake(f"this book has a {ORDINALS[MOST_PREDICATES + 1]} predicate, {shown(block.name)}: {limit}", block.name)
+        heads = ([] if block.arguments is None else [block.arguments]) + [case.head for case in block.cases]
+        for head in heads:
+            first = found.setdefault(name, head)
+            if len(head) != len(first):
+                raise _other_count(tokens, block.name, head, first)
+    return found
+
+
+def _other_count(tokens: Tokens, name: Token, head: list[Token], first: list[Token]) -> Mistake:
+    line = f" (line {first[0].line})" if first else ""
+    message = f"{shown(name)} has {count(len(first), 'argument')}{line} and {len(head)} here: write the same number everywhere"
+    return tokens.mistake(message, head[0] if head else name)
+
+
+def _rule(tokens: Tokens, case: Case, predicate: int, numbers: dict[str, int], predicates: dict[str, list[Token]]) -> Rule:
+    arguments = [token.text for token in case.head]
+    for token in case.listed:
+        if token.text in arguments:
+            raise tokens.mistake(f"{shown(token)} is an argument of the head, and no name of exists: take it off the list", token)
+    variables = tuple(arguments + [name for name in case.names if name not in arguments])
+
+    def term(token: Token) -> int:
+        return NIL if token.text == "nil" else variables.index(token.text)
+
+    for name, terms in case.calls:
+        _check_call(tokens, name, terms, predicates)
+    return Rule(
+        predicate,
+        variables,
+        tuple(Condition(KINDS[kind], term(left), term(right)) for kind, left, right in case.conditions),
+        tuple(Cell(term(address), tuple(map(term, fields))) for address, fields in case.cells),
+        tuple(Call(numbers[name.text], tuple(map(term, terms))) for name, terms in case.calls),
+        case.start.line,
+    )
+
+
+def _check_call(tokens: Tokens, name: Token, terms: list[Token], predicates: dict[str, list[Token]]) -> None:
+    if name.text not in predicates:
+        raise tokens.mistake(f"there is no predicate {shown(name)} in this book: {suggestion(name.text, list(predicates))}", name)
+    due = len(predicates[name.text])
+    if len(terms) != due:
+        raise tokens.mistake(f"{shown(name)} has {count(due, 'argument')}, and this call has {len(terms)}: write {due}", name)
+
+
+def write_book(book: Book) -> str:
+    blocks: list[str] = []
+    begun = 0  # predicates with a block so far: a later one must not come before them
+    for predicate, rules in groupby(book.rules, key=lambda rule: rule.predicate):
+        blocks += [_declaration(book.predicates[number]) for number in range(begun, predicate)]
+        begun = max(begun, predicate + 1)
+        blocks.append(_block(book.predicates[predicate].name, [write_case(rule, book) for rule in rules]))
+    blocks += [_declaration(predicate) for predicate in book.predicates[begun:]]
+    return "\n".join(blocks) + "\n"
+
+
+def _declaration(predicate: Predicate) -> str:
+    return f"{predicate.name}({', '.join('abcd'[: predicate.arguments])}) {{ }} ;"
+
+
+def _block(name: str, cases: list[str]) -> str:
+    line = f"{name} {{ {cases[0]} }} ;"
+    if len(cases) == 1 and len(line) <= ONE_LINE:
+        return line
+    return f"{name} {{\n  " + " |\n  ".join(cases) + "\n} ;"
+
+
+def write_case(rule: Rule, book: Book) -> str:
+    """A rule as a case, on one line."""
+    predicate = book.predicates[rule.predicate]
+    head = f"{predicate.name}({', '.join(rule.variables[: predicate.arguments])})"
+    return f"{_exists(rule, predicate.arguments)}{' * '.join(write_atoms(rule, book)) or 'emp'} => {head}"
+
+
+def write_atoms(rule: Rule, book: Book) -> list[str]:
+    """The rule's conditions, cells and calls."""
+
+    def term(number: int) -> str:
+        return "nil" if number == NIL else rule.variables[number]
+
+    atoms = [f"{term(each.left)} {'=' if each.kind == EQUAL else '!='} {term(each.right)}" for each in rule.conditions]
+    atoms += [f"{term(each.address)} -> {', '.join(map(term, each.fields)) or '()'}" for each in rule.cells]
+    atoms += [f"{book.predicates[each.predicate].name}({', '.join(map(term, each.terms))})" for each in rule.calls]
+    return atoms
+
+
+def _exists(rule: Rule, arguments: int) -> str:
+    """The list of the bound variables, where their order in the atoms would give them other numbers."""
+    terms = [term for each in rule.conditions for term in (each.left, each.right)]
+    terms += [term for each in rule.cells for term in (each.address, *each.fields)]
+    terms += [term for each in rule.calls for term in each.terms]
+    appearing = [term for term in dict.fromkeys(terms) if term != NIL and term >= arguments]
+    if appearing == list(range(arguments, len(rule.variables))):
+        return ""
+    return f"exists {', '.join(rule.variables[arguments:])}: "

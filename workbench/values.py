@@ -1,0 +1,38 @@
+"""Values as text: numbers in base ten or after 0x in base sixteen, and nil for 0."""
+
+from workbench.lexer import Token, Tokens, shown
+from workbench.model import MOST_VALUE
+
+Spellings = tuple[tuple[int, str], ...]
+
+# A number with more digits is above any value; Python would refuse to read one of thousands of digits.
+MOST_DIGITS = len(str(MOST_VALUE))
+
+
+def read_value(tokens: Tokens, token: Token) -> int:
+    if token.kind == "name" and token.text == "nil":
+        return 0
+    if token.kind != "number":
+        raise tokens.mistake(f"{shown(token)} is no value: write a number or nil", token)
+    value = _number(token.text)
+    if value > MOST_VALUE:
+        raise tokens.mistake(f"{shown(token)} is too large: a value is at most {MOST_VALUE:,} (0xFFFFFFFF)", token)
+    return value
+
+
+def _number(text: str) -> int:
+    sixteen = text[:2] in ("0x", "0X")
+    digits = (text[2:] if sixteen else text).lstrip("0")
+    return MOST_VALUE + 1 if len(digits) > MOST_DIGITS else int(digits or "0", 16 if sixteen else 10)
+
+
+def spellings_of(read: list[tuple[int, Token]]) -> Spellings:
+    """The first spelling of each number, where it is not the one in base ten. 0 is always nil."""
+    found: dict[int, str] = {}
+    for value, token in read:
+        found.setdefault(value, token.text)
+    return tuple((value, text) for value, text in found.items() if value and text != str(value))
+
+
+def write_value(value: int, spellings: Spellings = ()) -> str:
+    return dict(spellings).get(value, str(value)) if value else "nil"
