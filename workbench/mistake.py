@@ -1,5 +1,10 @@
 """What a user got wrong, with the place and what to do about it."""
 
+from unicodedata import combining, east_asian_width
+
+# How much of a long line is shown.
+MOST_SHOWN = 120
+
 
 class Mistake(Exception):
     """`source` is the name of the file (or of what stands for one), `text` the line that `line` and `column`, from 1, point into."""
@@ -13,7 +18,21 @@ class Mistake(Exception):
         self.text = text
 
     def __str__(self) -> str:
+        message, source = _printable(self.message), _printable(self.source)
         if not self.line:
-            return f"{self.source}: {self.message}" if self.source else self.message
-        shown = self.text.expandtabs(1).rstrip()
-        return f"{self.source}:{self.line}:{self.column}: {self.message}\n  {shown}\n  {' ' * (self.column - 1)}^"
+            return f"{source}: {message}" if source else message
+        # Of a line that would fill the screen, only what is around the place.
+        start = max(0, self.column - 1 - MOST_SHOWN // 2) if len(self.text) > MOST_SHOWN else 0
+        shown = _printable(self.text[start : start + MOST_SHOWN])
+        before = _width(shown[: self.column - 1 - start])
+        return f"{source}:{self.line}:{self.column}: {message}\n  {shown.rstrip()}\n  {' ' * before}^"
+
+
+def _printable(text: str) -> str:
+    """A file's control characters must not reach the terminal; each keeps its column."""
+    return "".join(each if each.isprintable() else " " if each.isspace() else "?" for each in text)
+
+
+def _width(text: str) -> int:
+    """The columns that a text takes on the screen."""
+    return sum(0 if combining(each) else 2 if east_asian_width(each) in "WF" else 1 for each in text)
