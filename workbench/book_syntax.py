@@ -37,8 +37,15 @@ def parse_blocks(tokens: Tokens) -> list[Block]:
     while tokens.peek().kind != "end":
         blocks.append(_block(tokens))
         if not tokens.take(";") and tokens.peek().kind != "end":
-            raise tokens.mistake(f"; is missing: write ; between two blocks, before {shown(tokens.peek())}", tokens.peek())
+            raise _after_block(tokens)
     return blocks
+
+
+def _after_block(tokens: Tokens) -> Mistake:
+    token = tokens.peek()
+    if token.kind in ("}", ")"):
+        return tokens.mistake(f"{shown(token)} closes nothing: take it away", token)
+    return tokens.mistake(f"; is missing: write ; between two blocks, before {shown(token)}", token)
 
 
 def _refuse_other_texts(tokens: Tokens) -> None:
@@ -57,7 +64,7 @@ def _block(tokens: Tokens) -> Block:
         raise tokens.mistake(f"{shown(name)} begins no block: write the name of a predicate, as in p {{ emp => p() }}", name)
     _refuse_reserved(tokens, name, "predicate")
     p = shorten(name.text)
-    arguments = _arguments(tokens, p, None) if tokens.peek().kind == "(" else None
+    arguments = _arguments(tokens, None) if tokens.peek().kind == "(" else None
     if not tokens.take("{"):
         raise tokens.mistake(f"{{ is missing after {p}: write {p} {{ atoms => {p}(a, b) }}", tokens.peek())
     if tokens.take("}"):
@@ -223,7 +230,7 @@ def _terms(tokens: Tokens, case: Case, what: str) -> list[Token]:
         if tokens.take(")"):
             return terms
         if not tokens.take(","):
-            raise tokens.mistake(f") is missing before {shown(tokens.peek())}: write , and another {what}, or )", tokens.peek())
+            raise tokens.unseparated(what + "s")
 
 
 def _term(tokens: Tokens, case: Case) -> Token:
@@ -231,7 +238,7 @@ def _term(tokens: Tokens, case: Case) -> Token:
     if token.kind == "number":
         raise _number(tokens, token)
     if token.kind != "name":
-        raise tokens.mistake(f"a name or nil is missing before {shown(token)}", token)
+        raise tokens.mistake(f"a term is missing before {shown(token)}: write a name or nil", token)
     if token.text != "nil":
         _refuse_reserved(tokens, token, "variable")
         _note(tokens, case, token)
@@ -248,10 +255,10 @@ def _head(tokens: Tokens, case: Case, p: str, predicate: str) -> None:
         raise tokens.mistake(f"a case in the block of {p} has {p} as its head: write {p}, or begin a block {shown(name)} {{ .. }}", name)
     if tokens.peek().kind != "(":
         raise tokens.mistake(f"the arguments of {p} are missing: write {p}() where there are none", tokens.peek())
-    case.head = _arguments(tokens, p, case)
+    case.head = _arguments(tokens, case)
 
 
-def _arguments(tokens: Tokens, p: str, case: Case | None) -> list[Token]:
+def _arguments(tokens: Tokens, case: Case | None) -> list[Token]:
     """The different names in the parentheses of a head, or of a block's own line, which is in no case."""
     tokens.next()
     arguments: list[Token] = []
@@ -267,7 +274,7 @@ def _arguments(tokens: Tokens, p: str, case: Case | None) -> list[Token]:
         if tokens.take(")"):
             return arguments
         if not tokens.take(","):
-            raise tokens.mistake(f") is missing before {shown(tokens.peek())}: write , and another argument of {p}, or )", tokens.peek())
+            raise tokens.unseparated("arguments")
 
 
 def _check_argument(tokens: Tokens, token: Token, before: list[Token]) -> None:

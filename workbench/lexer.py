@@ -72,7 +72,10 @@ def shorten(text: str) -> str:
 
 
 def shown(token: Token) -> str:
-    return "the end" if token.kind == "end" else shorten(token.text)
+    """How a message names a token; those that a message itself may have next to it are in quotes."""
+    if token.kind == "end":
+        return "the end"
+    return f'"{token.text}"' if token.kind in (",", ";", ":") else shorten(token.text)
 
 
 class Tokens:
@@ -101,6 +104,12 @@ class Tokens:
 
     def mistake(self, message: str, token: Token) -> Mistake:
         return Mistake(message, self.source, token.line, token.column, self.lines[token.line - 1])
+
+    def unseparated(self, what: str) -> Mistake:
+        """In a list in parentheses, the next token is neither of those that can follow."""
+        token = self.peek()
+        missing = "," if token.kind in ("name", "number") else ")"
+        return self.mistake(f"{missing} is missing before {shown(token)}: write , between {what} and ) after the last", token)
 
     def _end(self) -> Token:
         """The end stands after the last token and not after the comments that follow: there something is missing."""

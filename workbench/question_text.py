@@ -35,7 +35,7 @@ def _values(tokens: Tokens, name: Token, due: int) -> list[tuple[int, Token]]:
         read.append((read_value(tokens, token), token))
         closed = tokens.take(")")
         if not closed and not tokens.take(","):
-            raise tokens.mistake(f") is missing before {shown(tokens.peek())}: write , and another value, or )", tokens.peek())
+            raise tokens.unseparated("values")
     if len(read) != due:
         raise tokens.mistake(f"{shown(name)} has {count(due, 'argument')}, and here {len(read)}: write {_form(name.text, due)}", name)
     return read
