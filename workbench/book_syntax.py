@@ -118,7 +118,7 @@ def _listed(tokens: Tokens, case: Case) -> None:
         token = tokens.next()
         if token.kind != "name":
             raise tokens.mistake(f"a name is missing before {shown(token)}: write exists c, d: and then the atoms", token)
-        _refuse_reserved(tokens, token, "variable")
+        _refuse_no_variable(tokens, token)
         if token.text in case.names:
             raise tokens.mistake(f"{shown(token)} is listed twice: take one of them away", token)
         _note(tokens, case, token)
@@ -240,7 +240,7 @@ def _term(tokens: Tokens, case: Case) -> Token:
     if token.kind != "name":
         raise tokens.mistake(f"a term is missing before {shown(token)}: write a name or nil", token)
     if token.text != "nil":
-        _refuse_reserved(tokens, token, "variable")
+        _refuse_no_variable(tokens, token)
         _note(tokens, case, token)
     return token
 
@@ -251,6 +251,7 @@ def _head(tokens: Tokens, case: Case, p: str, predicate: str) -> None:
         raise _number(tokens, name)
     if name.kind != "name":
         raise tokens.mistake(f"the head is missing before {shown(name)}: write {p}(a, b) with the arguments of {p}", name)
+    _refuse_reserved(tokens, name, "predicate")
     if name.text != predicate:
         raise tokens.mistake(f"a case in the block of {p} has {p} as its head: write {p}, or begin a block {shown(name)} {{ .. }}", name)
     if tokens.peek().kind != "(":
@@ -284,7 +285,7 @@ def _check_argument(tokens: Tokens, token: Token, before: list[Token]) -> None:
         raise tokens.mistake(f"a name is missing before {shown(token)}: the arguments of a head are different names", token)
     if token.text == "nil":
         raise tokens.mistake("nil cannot be an argument of a head: write a name a there, and the condition a = nil", token)
-    _refuse_reserved(tokens, token, "variable")
+    _refuse_no_variable(tokens, token)
     if any(token.text == other.text for other in before):
         other = f"write another name b there, and the condition {shown(token)} = b"
         raise tokens.mistake(f"{shown(token)} stands twice in the head: {other}", token)
@@ -306,6 +307,15 @@ def _limit(tokens: Tokens, found: list, most: int, token: Token, one: str, many:
 def _refuse_reserved(tokens: Tokens, token: Token, what: str) -> None:
     if token.text in RESERVED:
         raise tokens.mistake(f"{token.text} is a reserved word and no name of a {what}: write another name", token)
+
+
+def _refuse_no_variable(tokens: Tokens, token: Token) -> None:
+    """What would be read as a variable, which has any value, and is plainly meant otherwise."""
+    _refuse_reserved(tokens, token, "variable")
+    if token.text.lower() in ("nil", "null"):
+        raise tokens.mistake(f"{token.text} is no variable: write nil, or another name", token)
+    if token.text == "_":
+        raise tokens.mistake("_ alone is no name: write a name of its own for each value that may be any", token)
 
 
 def _number(tokens: Tokens, token: Token) -> Mistake:

@@ -49,7 +49,7 @@ def _predicates(tokens: Tokens, blocks: list[Block]) -> dict[str, list[Token]]:
 
 def _other_count(tokens: Tokens, name: Token, head: list[Token], first: list[Token]) -> Mistake:
     line = f" (line {first[0].line})" if first else ""
-    message = f"{shown(name)} has {count(len(first), 'argument')}{line} and {len(head)} here: write the same number everywhere"
+    message = f"{shown(name)} has {count(len(first), 'argument')}{line}, and {len(head) or 'none'} here: write the same number everywhere"
     return tokens.mistake(message, head[0] if head else name)
 
 
@@ -80,7 +80,8 @@ def _check_call(tokens: Tokens, name: Token, terms: list[Token], predicates: dic
         raise tokens.mistake(f"there is no predicate {shown(name)} in this book: {suggestion(name.text, list(predicates))}", name)
     due = len(predicates[name.text])
     if len(terms) != due:
-        raise tokens.mistake(f"{shown(name)} has {count(due, 'argument')}, and this call has {len(terms)}: write {due}", name)
+        message = f"{shown(name)} has {count(due, 'argument')}, and this call has {len(terms) or 'none'}: write {due or 'none'}"
+        raise tokens.mistake(message, name)
 
 
 def write_book(book: Book) -> str:

@@ -34,8 +34,8 @@ SLIPS = {
     "∨": "write | between cases",
     "∃": "write exists, the names, and :",
     "!": "write != for unequal",
-    "-": "write -> for a cell; a number has no sign",
-    ".": "write : after the names of exists; a number is a whole number",
+    "-": "write -> for a cell",
+    ".": "write : after the names of exists",
     "[": "write ( and not [",
     "]": "write ) and not ]",
 }
@@ -137,10 +137,16 @@ class Tokens:
         if token.kind == "name":
             self._check_name(token)
         if token.kind in ("slip", "slip1"):
-            raise self.mistake(f"{token.text} is not used here: {SLIPS[token.text]}", token)
+            raise self.mistake(f"{token.text} is not used here: {self._instead(token)}", token)
         if token.kind == "unknown":
             raise self.mistake(_unknown(token.text), token)
         return token
+
+    def _instead(self, slip: Token) -> str:
+        following = self.lines[slip.line - 1][slip.column : slip.column + 1]
+        if slip.text in ("-", ".") and following.isdigit():
+            return "write a whole number of 0 or more, without sign or point"
+        return SLIPS[slip.text]
 
     def _check_name(self, token: Token) -> None:
         """The pattern takes more for a letter than letters, such as raised digits."""

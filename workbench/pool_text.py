@@ -79,18 +79,19 @@ def _fields(tokens: Tokens, line: int, read: list[tuple[int, Token]]) -> list[in
 
     fields: list[int] = []
     opened = tokens.take("(") if more() else None
-    closed = more() and opened and tokens.take(")")
-    while not closed and (more() or opened):
+    while more() and tokens.peek().kind != ")":
         if len(fields) == MOST_FIELDS:
             raise tokens.mistake(f"this record has a fifth field: a record has at most {MOST_FIELDS} fields", tokens.peek())
         fields.append(_field(tokens, read))
-        closed = more() and opened and tokens.take(")")
-        if not closed and not (more() and tokens.take(",")):
-            if opened:
-                raise tokens.mistake(f") is missing: write ) after the last field of the record, on line {line}", opened)
+        comma = tokens.take(",") if more() else None
+        if not comma:
             break
-        if not closed and not more():
-            raise tokens.mistake("a field is missing after ,: write one on the same line, or take , away", tokens.all[tokens.at - 1])
+        if not more() or tokens.peek().kind == ")":
+            raise tokens.mistake("a field is missing after this comma: write one on the same line, or take the comma away", comma)
+    if opened and not more():
+        raise tokens.mistake("( is not closed on its line: write ) after the last field", opened)
+    if opened and not tokens.take(")"):
+        raise tokens.unseparated("fields")
     if more():
         raise _after_fields(tokens)
     return fields

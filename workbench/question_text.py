@@ -1,6 +1,6 @@
 """Questions as text, such as `segment(10, nil)`."""
 
-from workbench.lexer import Token, Tokens, shown
+from workbench.lexer import Token, Tokens, shorten, shown
 from workbench.model import Book, Question
 from workbench.nearest import count, suggestion
 from workbench.values import read_value, spellings_of, write_value
@@ -37,12 +37,13 @@ def _values(tokens: Tokens, name: Token, due: int) -> list[tuple[int, Token]]:
         if not closed and not tokens.take(","):
             raise tokens.unseparated("values")
     if len(read) != due:
-        raise tokens.mistake(f"{shown(name)} has {count(due, 'argument')}, and here {len(read)}: write {_form(name.text, due)}", name)
+        message = f"{shown(name)} has {count(due, 'argument')}, and this question has {count(len(read), 'value')}"
+        raise tokens.mistake(f"{message}: write {_form(name.text, due)}", name)
     return read
 
 
 def _form(name: str, arguments: int) -> str:
-    return f"{name}({', '.join(('10', '20', '30', '40')[:arguments])})"
+    return f"{shorten(name)}({', '.join(('10', '20', '30', '40')[:arguments])})"
 
 
 def _example(book: Book) -> str:

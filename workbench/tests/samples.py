@@ -12,7 +12,8 @@ from workbench.model import (
 
 ROOT = Path(__file__).resolve().parent.parent.parent
 HOUSE = bytes.fromhex(
-    "03 02 01 02 04 00 00 01 00 00 01 00 00 00 01 00 01 00 01 02 01 00 02 01 01 01 00 01 00 01 01 01 00 01 00 02 00 00 00 02 00 00 FF 00 01 FF"
+    "03 02 01 02 04 00 00 01 00 00 01 00 00 00 01 00 01 00 01 02 01 00 02 01"
+    "01 01 00 01 00 01 01 01 00 01 00 02 00 00 00 02 00 00 FF 00 01 FF"
 )
 LETTERS = ("a", "b", "n", "x", "Z", "_", "λ", "é", "数")
 
@@ -61,7 +62,8 @@ def _names(random: Random, many: int, plain: str) -> list[str]:
     found: dict[str, None] = {}
     while len(found) < many:
         name = random.choice(LETTERS) + "".join(random.choice(LETTERS + ("'", "0", "9")) for _ in range(random.randint(0, 3)))
-        found[name] = None
+        if name != "_":  # which is no variable
+            found[name] = None
     return list(found)
 
 
@@ -83,9 +85,9 @@ def _random_rule(random: Random, predicates: tuple[Predicate, ...]) -> Rule:
         return tuple(random.choice(terms) for _ in range(many))
 
     conditions = [Condition(random.randrange(2), *some(2)) for _ in range(_many(random, MOST_CONDITIONS))]
-    cells = [
-        Cell(random.randrange(len(variables)), some(_many(random, MOST_FIELDS))) for _ in range(_many(random, MOST_CELLS) if variables else 0)
-    ]
+    # Without variables there is no address.
+    addresses = [random.randrange(len(variables)) for _ in range(_many(random, MOST_CELLS) if variables else 0)]
+    cells = [Cell(address, some(_many(random, MOST_FIELDS))) for address in addresses]
     called = [random.randrange(len(predicates)) for _ in range(_many(random, MOST_CALLS))]
     calls = [Call(number, some(predicates[number].arguments)) for number in called]
     return Rule(predicate, tuple(variables), tuple(conditions), tuple(cells), tuple(calls))

@@ -1,0 +1,228 @@
+"""What is said about each mistake in a book."""
+
+import unittest
+
+from workbench.book_text import parse_book
+from workbench.tests.marked import check_rows
+
+SLIPS_OF_HABIT = [
+    ("p { a ‸≠ b => p(a, b) }", "≠ is not used here: write != for unequal"),
+    ("p { a ‸→ b => p(a) }", "→ is not used here: write -> for a cell"),
+    ("p { a = b ‸& c = d => p(a) }", "& is not used here: write * between atoms"),
+    ("p { a ‸:= b => p(a) }", ":= is not used here: write = in a condition, => before a head, and : after an address"),
+    ("p { a = b‸, c = d => p(a) }", "write * and not , between atoms"),
+    ("p { a ‸<> b => p(a) }", "<> is not used here: write != for unequal"),
+    ("p { emp => p(a) } ‸// no", "// is not used here: a comment begins with #"),
+    ("p { a‸.b = b => p(a) }", ". is not used here: write : after the names of exists"),
+    ("p { a -> ‸[b] => p(a) }", "[ is not used here: write ( and not ["),
+    ("p { a = b => p‸[a] }", "[ is not used here: write ( and not ["),
+    ("p { a ‸== b => p(a) }", "== is not used here: write = for equal"),
+    ("p { a ‸==> p(a) }", "==> is not used here: write => before the head"),
+    ("p { a ‸|-> b => p(a) }", "|-> is not used here: write -> for a cell"),
+    ("p { a ‸↦ b => p(a) }", "↦ is not used here: write -> for a cell"),
+    ("p { a = b ‸&& a = c => p(a) }", "&& is not used here: write * between atoms"),
+    ("p { a = b ‸∧ a = c => p(a) }", "∧ is not used here: write * between atoms"),
+    ("p { a = b ‸∗ a = c => p(a) }", "∗ is not used here: write * between atoms"),
+    ("p { a = b ‸⇒ p(a) }", "⇒ is not used here: write => before the head"),
+    ("p { emp => p() ‸|| emp => p() }", "|| is not used here: write | between cases"),
+    ("p { ‸∃ c: a = c => p(a) }", "∃ is not used here: write exists, the names, and :"),
+    ("p { exists c‸. a = c => p(a) }", ". is not used here: write : after the names of exists"),
+    ("p { a ‸/= b => p(a) }", "/= is not used here: write != for unequal"),
+    ("p { a ‸! b => p(a) }", "! is not used here: write != for unequal"),
+    ("p(a) ‸<= a = b", "<= is not used here: write the head last, after =>"),
+    ("p { p(a) ‸<- a = b }", "<- is not used here: write the head last, after =>, and a cell as address -> fields"),
+    ("p { p(a)‸, p(b) => p(a) }", "write * and not , between atoms"),
+    ("p { a -> b‸, a = b => p(a) }", "write * and not , between atoms"),
+    ("p { a -> b‸, b -> a => p(a) }", "write * and not , between atoms"),
+    ("p { emp => p() } ‸/* no */", "/* is not used here: a comment begins with # and goes to the end of the line"),
+    ("p { emp => p() } ‸-- no", "-- is not used here: a comment begins with #"),
+    ("p { a -> (b)‸, c => p(a) }", "write * and not , between atoms"),
+    ("p { a -> b‸, nil -> c => p(a) }", "write * and not , between atoms"),
+    ("p { a=‸-1 => p(a) }", "- is not used here: write a whole number of 0 or more, without sign or point"),
+]
+
+LIMITS = [
+    ("p { a -> b, c, d, e, ‸f => p(a) }", "this cell has a fifth field: a cell has at most 4 fields"),
+    ("p { a -> (b, c, d, e, ‸f) => p(a) }", "this cell has a fifth field: a cell has at most 4 fields"),
+    (
+        "p { a = b * c = d * e = f * g = h * ‸i = a => p(a) }",
+        "this case has a ninth name, i: a case has at most 8 names, its arguments included",
+    ),
+    ("p { a=b*a=b*a=b*a=b*a=b*a=b*a=b*a=b*‸a=b => p(a) }", "this case has a ninth condition: a case has at most 8 conditions"),
+    ("p { a->b*a->b*a->b*a->b*‸a->b => p(a) }", "this case has a fifth cell: a case has at most 4 cells"),
+    ("p { p(a)*p(a)*p(a)*‸p(a) => p(a) }", "this case has a fourth call: a case has at most 3 calls"),
+    ("p { emp => p(a, b, c, d, ‸e) }", "this predicate has a fifth argument: a predicate has at most 4 arguments"),
+    ("p { p(a, b, c, d, ‸e) => p(a) }", "this predicate has a fifth argument: a predicate has at most 4 arguments"),
+    (
+        "a() { } ; b() { } ; c() { } ; d() { } ; e() { } ; f() { } ; g() { } ; h() { } ; ‸i() { }",
+        "this book has a ninth predicate, i: a book has at most 8 predicates",
+    ),
+    ("p { a = b * c = d * e = f * g = h => p(‸i) }", "this case has a ninth name, i: a case has at most 8 names, its arguments included"),
+    (
+        "p { exists a, b, c, d, e, f, g, h, ‸i: emp => p() }",
+        "this case has a ninth name, i: a case has at most 8 names, its arguments included",
+    ),
+]
+
+NAMES = [
+    ("p { a = b => p(‸1) }", "1 is a number, and rules have names and nil only: write a name"),
+    ("‸nil { emp => nil() }", "nil is a reserved word and no name of a predicate: write another name"),
+    ("p { exists ‸a: a = b => p(a) }", "a is an argument of the head, and no name of exists: take it off the list"),
+    ("p { exists c, ‸c: a = b => p(a) }", "c is listed twice: take one of them away"),
+    ("p { exists ‸nil: a = b => p(a) }", "nil is a reserved word and no name of a variable: write another name"),
+    ("p { ‸emp() => p(a) }", "emp is a reserved word and no name of a predicate: write another name"),
+    ("p { ‸emp -> a => p(a) }", "emp is a reserved word and no name of a variable: write another name"),
+    ("p { ‸nil -> x => p(x) }", "nil is no address: the address of a cell must be a name"),
+    ("p { ‸10 -> x => p(x) }", "10 is a number, and rules have names and nil only: write a name"),
+    ("p { a = ‸0x1F => p(a) }", "0x1F is a number, and rules have names and nil only: write a name"),
+    ("p { ‸segmnt(a) => p(a) } ; segment(a) { }", "there is no predicate segmnt in this book: did you mean segment?"),
+    ("p { emp => p(a) } ; ‸@", "the character @ (U+0040) has no meaning here: take it away; names have letters, digits, _ and '"),
+    ("p { a‸² = b => p(a) }", "the character ² (U+00B2) has no meaning here: take it away; names have letters, digits, _ and '"),
+    ("p { ‸2a = b => p(a) }", "2a is no number and no name: write base sixteen after 0x; a name begins with a letter"),
+    ("‸exists { emp => p() }", "exists is a reserved word and no name of a predicate: write another name"),
+    ("p(‸10) { }", "10 is a number, and rules have names and nil only: write a name"),
+    ("p { ‸P(a) => p(a) }", "there is no predicate P in this book: did you mean p?"),
+    ("p { a -> b * ‸7 => p(a) }", "7 is a number, and rules have names and nil only: write a name"),
+    ("p { emp => ‸7(a) }", "7 is a number, and rules have names and nil only: write a name"),
+    ("p { emp => ‸nil(a) }", "nil is a reserved word and no name of a predicate: write another name"),
+    ("p { emp => p(‸emp) }", "emp is a reserved word and no name of a variable: write another name"),
+    ("p { p(‸exists) => p(a) }", "exists is a reserved word and no name of a variable: write another name"),
+    ("p { a -> ‸emp => p(a) }", "emp is a reserved word and no name of a variable: write another name"),
+    ("p { a -> b * ‸emp = b => p(a) }", "emp is a reserved word and no name of a variable: write another name"),
+    ("p { a ‸\u200b= b => p(a) }", "the character U+200B has no meaning here: take it away; names have letters, digits, _ and '"),
+    ("p { ‸007 = a => p(a) }", "007 begins with 0: write 7, or 0x and the digits for base sixteen"),
+    ("p { ‸1_0 = a => p(a) }", "1_0 has _ in it: write a number without _; a name begins with a letter"),
+    ("p { ‸0x = a => p(a) }", "0x is no number and no name: write base sixteen after 0x; a name begins with a letter"),
+    ("p { a -> ‸NULL => p(a) }", "NULL is no variable: write nil, or another name"),
+    ("p { a -> ‸Nil => p(a) }", "Nil is no variable: write nil, or another name"),
+    ("p { a -> ‸_ => p(a) }", "_ alone is no name: write a name of its own for each value that may be any"),
+    ("p { emp => p(‸_) }", "_ alone is no name: write a name of its own for each value that may be any"),
+    ("p { exists ‸_: emp => p() }", "_ alone is no name: write a name of its own for each value that may be any"),
+]
+
+HEADS = [
+    ("p { a = b ‸}", "=> is missing before }: write => and the head, such as p(a), after the atoms of a case"),
+    ("p { a = b ‸| a = b => p(a) }", "=> is missing before |: write => and the head, such as p(a), after the atoms of a case"),
+    ("p { a = b => ‸q(a) }", "a case in the block of p has p as its head: write p, or begin a block q { .. }"),
+    ("p { a = b => p(a, ‸a) }", "a stands twice in the head: write another name b there, and the condition a = b"),
+    ("p { a = b => p(‸nil) }", "nil cannot be an argument of a head: write a name a there, and the condition a = nil"),
+    ("p { a = b => p ‸}", "the arguments of p are missing: write p() where there are none"),
+    ("p { a = b => ‸}", "the head is missing before }: write p(a, b) with the arguments of p"),
+    ("p { a = b => p(a) ‸* a = c }", "nothing is joined to a head: write all atoms of the case before => p(..)"),
+    ("p { a = b => p(a, b) | a = b => p(‸a) }", "p has 2 arguments (line 1), and 1 here: write the same number everywhere"),
+    ("p(a) { a = b => p(‸a, b) }", "p has 1 argument (line 1), and 2 here: write the same number everywhere"),
+    ("p { a -> b ‸| c => p(a) }", "=> is missing before |: write => and the head, such as p(a), after the atoms of a case"),
+    ("p(a, ‸a) { }", "a stands twice in the head: write another name b there, and the condition a = b"),
+    ("p { emp => p(a,‸) }", "a name is missing before ): the arguments of a head are different names"),
+    ("p { emp => p(a) } ; p { emp => ‸P(a) }", "a case in the block of p has p as its head: write p, or begin a block P { .. }"),
+    ("p { a -> b => p(a) | a -> c => p(‸c, d) }", "p has 1 argument (line 1), and 2 here: write the same number everywhere"),
+    ("p { emp => p() | emp => p(‸a) }", "p has no arguments, and 1 here: write the same number everywhere"),
+]
+
+CALLS = [
+    ("p { ‸p(a, b) => p(a) }", "p has 1 argument, and this call has 2: write 1"),
+    ("p { ‸p() => p(a) }", "p has 1 argument, and this call has none: write 1"),
+    ("p {\n  a = b => p(a, b)\n} ;\nq { ‸p(a) => q(a) }", "p has 2 arguments, and this call has 1: write 2"),
+    ("p() { } ; q { ‸p(a) => q(a) }", "p has no arguments, and this call has 1: write none"),
+]
+
+OTHER_TEXTS = [
+    ("‸10: 20", "this is a pool and no book: a book has blocks such as p { emp => p() }"),
+    ("‸emp", "this is a pool and no book: a book has blocks such as p { emp => p() }"),
+    ("‸p(10, 20)", "this is a question and no book: a book has blocks such as p { emp => p() }"),
+    ("‸", "there is no block here: a book has at least one, such as p { emp => p() }"),
+]
+
+FORM = [
+    ("p { a -> (b ‸=> p(a) }", ") is missing before =>: write , between fields and ) after the last"),
+    ("p { a -> b ‸c => p(a) }", "* or => is missing before c: write * between atoms, and => before the head"),
+    ("p { a -> ‸=> p(a) }", "a field is missing before =>: write a name or nil; a cell without fields is a -> ()"),
+    ("p { a -> ‸q(b) => p(a) }", "q begins another atom where a field is due: write a -> c * and then that atom"),
+    ("p { a = ‸=> p(a) }", "a term is missing before =>: write a name or nil"),
+    ("p { ‸= b => p(a) }", "an atom is missing before =: write one, or emp where there is none"),
+    ("p { ‸=> p(a) }", "an atom is missing before =>: write one, or emp where there is none"),
+    ("p { ‸a => p(a) }", "a alone is no atom: write a() for a predicate without arguments, or =, != or -> after it"),
+    (
+        "p { ‸empty => p() }",
+        "empty alone is no atom: write empty() for a predicate without arguments, or =, != or -> after it; the empty part is emp",
+    ),
+    ("p { a = b ‸p(a, b) }", "* or => is missing before p: write * between atoms, and => before the head"),
+    ("p { a = b => p(a) | ‸}", "a case is missing before }: write one, or take away the | before it"),
+    ("p { ‸| a = b => p(a) }", "a case is missing before |: write one, such as emp => p()"),
+    ("‸p { }", "this block has no case: write a case, or p(a, b) { } with the arguments that p has"),
+    ("p‸", "{ is missing after p: write p { atoms => p(a, b) }"),
+    ("p ‸a = b => p(a) }", "{ is missing after p: write p { atoms => p(a, b) }"),
+    ("p() { } ‸q() { }", "; is missing: write ; between two blocks, before q"),
+    ("‸{ a = b => p(a) }", "{ begins no block: write the name of a predicate, as in p { emp => p() }"),
+    ("‸; p() { }", "\";\" begins no block: write the name of a predicate, as in p { emp => p() }"),
+    ("p() { } ; ‸;", "\";\" begins no block: write the name of a predicate, as in p { emp => p() }"),
+    ("p { a = b => p(a) } ‸}", "} closes nothing: take it away"),
+    ("p { exists‸: a = b => p(a) }", "a name is missing before \":\": write exists c, d: and then the atoms"),
+    ("p { exists c ‸a = b => p(a) }", ": is missing before a: write exists c, d: and then the atoms"),
+    ("p { a = b * ‸exists c: c = a => p(a) }", "exists stands at the beginning of a case only: list all names there"),
+    ("p { ‸nil => p(a) }", "nil alone is no atom: write emp for nothing, or a condition such as a = nil"),
+    ("p { a = b => p(a, b) ‸; q { emp => q() }", "} is missing: write } before ; to close the block of p"),
+    ("p { a = b => p(a, b) ‸q { emp => q() }", "} and ; are missing: write } ; before the block of q"),
+    ("p(a, b) ‸= { emp }", "{ is missing after p: write p { atoms => p(a, b) }"),
+    ("p { ‸a => b => p(a) }", "a alone is no atom: write a() for a predicate without arguments, or =, != or -> after it"),
+    ("p { a = b ‸= c => p(a) }", "= cannot follow an atom: write * and another atom, or => and the head"),
+    ("p { p(a ‸=> p(a) }", ") is missing before =>: write , between arguments and ) after the last"),
+    ("p { p(a, ‸) => p(a) }", "a term is missing before ): write a name or nil"),
+    ("p { p(‸, a) => p(a) }", "a term is missing before \",\": write a name or nil"),
+    ("p { a -> b, ‸=> p(a) }", "a field is missing before =>: write a name or nil; a cell without fields is a -> ()"),
+    ("p { emp => p(a ‸b) }", ", is missing before b: write , between arguments and ) after the last"),
+    ("p {\n  a = b => p(a)\n  ‸a -> b => p(a)\n}", "| is missing: write | between two cases, before a"),
+    ("p { emp => p()‸ ", "} is missing: write } after the last case of p, whose block begins on line 1"),
+    ("p {\n  emp => p()‸\n  # the end is missing\n", "} is missing: write } after the last case of p, whose block begins on line 1"),
+    ("p { emp * ‸=> p() }", "an atom is missing before =>: write one, or emp where there is none"),
+    ("p { ‸* emp => p() }", "an atom is missing before *: write one, or emp where there is none"),
+    ("p { emp * emp ‸emp => p() }", "* or => is missing before emp: write * between atoms, and => before the head"),
+    ("p { emp => p(a) ‸: }", "\":\" cannot follow a head: write | and another case, or } to close the block of p"),
+    ("p { emp ‸: p(a) => p(a) }", "\":\" cannot follow an atom: write * and another atom, or => and the head"),
+    ("p { exists ‸=> p() }", "a name is missing before =>: write exists c, d: and then the atoms"),
+    ("p { exists c, ‸=> p() }", "a name is missing before =>: write exists c, d: and then the atoms"),
+    ("p(a) { emp => p(a) } ‸)", ") closes nothing: take it away"),
+    ("p { a -> b, c, d, ‸(e) => p(a) }", "a field is missing before (: write a name or nil; a cell without fields is a -> ()"),
+    ("p { a -> (b, c) ‸d => p(a) }", "* or => is missing before d: write * between atoms, and => before the head"),
+]
+
+
+class BookMistakes(unittest.TestCase):
+    def test_slips_of_habit(self) -> None:
+        check_rows(self, SLIPS_OF_HABIT, parse_book)
+
+    def test_limits(self) -> None:
+        check_rows(self, LIMITS, parse_book)
+
+    def test_names(self) -> None:
+        check_rows(self, NAMES, parse_book)
+
+    def test_heads(self) -> None:
+        check_rows(self, HEADS, parse_book)
+
+    def test_calls(self) -> None:
+        check_rows(self, CALLS, parse_book)
+
+    def test_other_texts(self) -> None:
+        check_rows(self, OTHER_TEXTS, parse_book)
+
+    def test_form(self) -> None:
+        check_rows(self, FORM, parse_book)
+
+    def test_a_seventeenth_case(self) -> None:
+        lines = "p {\n" + " |\n".join(["emp => p()"] * 15) + "\n} ;\nq {\n  emp => q() |\n"
+        parse_book(lines.rstrip("|\n ") + "}", "file")
+        rows = [(lines + "  ‸emp => q()\n}", "this is the seventeenth case of the book: a book has at most 16 cases")]
+        check_rows(self, rows, parse_book)
+
+    def test_the_line_of_other_arguments(self) -> None:
+        text = "# two\n\np(a, b) { } ;\n\np {\n  emp =>\n p(‸x) }"
+        check_rows(self, [(text, "p has 2 arguments (line 3), and 1 here: write the same number everywhere")], parse_book)
+
+    def test_a_long_name_is_cut_in_the_message(self) -> None:
+        text = "p { ‸" + "x" * 5000 + "(a) => p(a) }"
+        check_rows(self, [(text, f"there is no predicate {'x' * 37}... in this book: write one of p")], parse_book)
+
+
+if __name__ == "__main__":
+    unittest.main()
