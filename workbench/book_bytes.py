@@ -6,6 +6,7 @@ from workbench.model import (
     EQUAL, MOST_ARGUMENTS, MOST_CALLS, MOST_CELLS, MOST_CONDITIONS, MOST_FIELDS, MOST_PREDICATES, MOST_RULES, MOST_VARIABLES, NIL, UNEQUAL,
     Book, Call, Cell, Condition, Predicate, Rule,
 )
+from workbench.wording import count
 
 
 def encode_book(book: Book) -> bytes:
@@ -69,7 +70,7 @@ def _term(reader: ByteReader, due: str, variables: int, nil: bool = True) -> int
         return found
     if found == NIL:
         raise reader.mistake(f"nil stands for {due}, which must be a variable", reader.at - 1)
-    raise reader.mistake(f"{found} stands for {due}, and the rule has {variables or 'no'} variables", reader.at - 1)
+    raise reader.mistake(f"{found} stands for {due}, and the rule has {count(variables, 'variable')}", reader.at - 1)
 
 
 def _condition(reader: ByteReader, variables: int) -> Condition:

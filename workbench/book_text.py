@@ -8,7 +8,7 @@ from workbench.mistake import Mistake
 from workbench.model import (
     EQUAL, MOST_PREDICATES, MOST_RULES, NIL, UNEQUAL, Book, Call, Cell, Condition, Predicate, Rule,
 )
-from workbench.nearest import count, suggestion
+from workbench.wording import count, suggestion
 
 KINDS = {"=": EQUAL, "!=": UNEQUAL}
 

@@ -1,6 +1,7 @@
 """Bytes read front to back. A fault is a mistake that names the byte, counted from 0, and what is due there."""
 
 from workbench.mistake import Mistake
+from workbench.wording import count
 
 
 class ByteReader:
@@ -32,8 +33,9 @@ class ByteReader:
         return sum(self.byte(due) << (8 * place) for place in range(4))
 
     def finish(self) -> None:
-        if self.at < len(self.data):
-            raise self.mistake(f"the {self.block} is complete before this byte, and {len(self.data) - self.at} more follow", self.at)
+        more = len(self.data) - self.at
+        if more:
+            raise self.mistake(f"the {self.block} is complete before this byte: {count(more, 'byte')} too many", self.at)
 
 
 def number_bytes(value: int) -> bytes:

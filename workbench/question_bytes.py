@@ -3,7 +3,7 @@
 from workbench.byte_reader import ByteReader, number_bytes
 from workbench.mistake import Mistake
 from workbench.model import Book, Question
-from workbench.nearest import count
+from workbench.wording import count
 
 
 def encode_question(question: Question) -> bytes:

@@ -2,7 +2,7 @@
 
 from workbench.lexer import Token, Tokens, shorten, shown
 from workbench.model import Book, Question
-from workbench.nearest import count, suggestion
+from workbench.wording import count, suggestion
 from workbench.values import read_value, spellings_of, write_value
 
 

@@ -8,7 +8,7 @@ from workbench.book_bytes import decode_book, encode_book
 from workbench.book_text import parse_book
 from workbench.mistake import Mistake
 from workbench.model import Book, Pool
-from workbench.nearest import nearest
+from workbench.wording import nearest
 from workbench.pool_bytes import decode_pool, encode_pool
 from workbench.pool_text import parse_pool
 

@@ -1,4 +1,4 @@
-"""What to say to someone who named what is not there."""
+"""How messages put it: the nearest name to one that is not there, and numbers of things."""
 
 from difflib import get_close_matches
 
