@@ -1,7 +1,7 @@
 """The tokens of books, pools and questions as text: names, numbers and symbols, each with its line and column."""
 
 import re
-from dataclasses import dataclass
+from typing import NamedTuple
 
 from workbench.mistake import Mistake
 
@@ -56,8 +56,7 @@ PATTERN = re.compile(
 NUMBER = re.compile(r"0|[1-9][0-9]*|0[xX][0-9a-fA-F]+")
 
 
-@dataclass(frozen=True)
-class Token:
+class Token(NamedTuple):
     """`kind` is name, number, end, or the symbol itself."""
 
     kind: str
@@ -122,16 +121,15 @@ class Tokens:
         line, found, place = self.lines[number - 1], [], 0
         while place < len(line):
             match = PATTERN.match(line, place)
-            kind = match.lastgroup if match else "unknown"
-            token = Token(kind, match[0] if match else line[place], number, place + 1)
-            if kind not in ("space", "comment"):
-                found.append(self._checked(token))
-            place += len(token.text)
+            kind, text = (match.lastgroup, match[0]) if match else ("unknown", line[place])
+            if kind == "symbol":
+                found.append(Token(text, text, number, place + 1))
+            elif kind not in ("space", "comment"):
+                found.append(self._checked(Token(kind, text, number, place + 1)))
+            place += len(text)
         return found
 
     def _checked(self, token: Token) -> Token:
-        if token.kind == "symbol":
-            return Token(token.text, token.text, token.line, token.column)
         if token.kind == "number" and not NUMBER.fullmatch(token.text):
             raise self.mistake(_number_fault(token.text), token)
         if token.kind == "name":

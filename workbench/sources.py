@@ -56,7 +56,8 @@ def _file(path: str) -> bytes:
 
 def _near_file(path: str) -> str:
     try:
-        near = nearest(os.path.basename(path), sorted(os.listdir(os.path.dirname(path) or ".")))
+        # Of a directory with very many files, some: the comparison must not take longer than a person waits.
+        near = nearest(os.path.basename(path), sorted(os.listdir(os.path.dirname(path) or "."))[:2000])
     except (OSError, ValueError):
         return ": see to the directory"
     return f": did you mean {os.path.join(os.path.dirname(path), near)}?" if near else ": see to the name"
@@ -81,8 +82,10 @@ def read_text(data: bytes, source: str) -> str | None:
         return data.decode("utf-8-sig")
     if _wide(data):
         raise Mistake("this text is in UTF-16: save it as UTF-8", source)
-    if NO_TEXT.isdisjoint(data) and sum(byte in PRINTABLE for byte in data) * 4 > len(data) * 3:
-        raise _not_utf8(data, _utf8_fault(data) or 0, source)
+    fault = _utf8_fault(data)
+    mostly = sum(byte in PRINTABLE for byte in data) * 4 > len(data) * 3
+    if fault is not None and mostly and NO_TEXT.isdisjoint(data):
+        raise _not_utf8(data, fault, source)
     return None
 
 

@@ -2,7 +2,7 @@
 
 import unittest
 
-from workbench.lexer import SLIPS, Token, Tokens
+from workbench.lexer import SLIPS, Token, Tokens, shorten
 from workbench.mistake import Mistake
 from workbench.tests.marked import check_rows
 
@@ -47,6 +47,13 @@ class Lexer(unittest.TestCase):
                 Tokens(f"a {slip} b", "file")
             self.assertEqual(caught.exception.message, f"{slip} is not used here: {instead}")
             self.assertEqual(caught.exception.column, 3)
+
+    def test_signs_and_points_of_numbers(self) -> None:
+        whole = "is not used here: write a whole number of 0 or more, without sign or point"
+        check_rows(self, [("a\nb\n‸-1\na", f"- {whole}"), ("1‸.5\na", f". {whole}")], Tokens)
+
+    def test_long_names_in_messages(self) -> None:
+        self.assertEqual([shorten("x" * 40), shorten("x" * 41)], ["x" * 40, "x" * 37 + "..."])
 
     def test_what_belongs_to_nothing(self) -> None:
         rows = [

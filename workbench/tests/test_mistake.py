@@ -17,6 +17,10 @@ class Shown(unittest.TestCase):
         _, shown, caret = str(Mistake("no.", "a", 1, 5001, "x" * 5000 + "!" + "y" * 5000)).split("\n")
         self.assertEqual((len(shown), shown[len(caret) - 1]), (122, "!"))
 
+    def test_the_beginning_of_a_long_line(self) -> None:
+        _, shown, caret = str(Mistake("no.", "a", 1, 1, "!" + "x" * 500)).split("\n")
+        self.assertEqual((len(shown), caret), (122, "  ^"))
+
     def test_the_end_of_a_long_line(self) -> None:
         _, shown, caret = str(Mistake("no.", "a", 1, 301, "x" * 300)).split("\n")
         self.assertEqual(len(caret), len(shown) + 1)

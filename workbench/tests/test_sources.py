@@ -91,6 +91,12 @@ class StandardInput(InDirectory):
                 "standard input: there is nothing in it: write emp for a pool with no record, or lines such as 10: 20",
             )
 
+    def test_size(self) -> None:
+        with self.given(b"#" * 2**20):
+            self.assertEqual(len(read_bytes("-")), 2**20)
+        with self.given(b"#" * (2**20 + 1)):
+            self.assertTrue(self.said(read_bytes, "-").startswith("standard input: this is larger than 1 MB"))
+
     def test_closed(self) -> None:
         with mock.patch.object(sources.sys, "stdin", None):
             self.assertEqual(
@@ -158,6 +164,14 @@ class Encodings(InDirectory):
         data = "# one\r\n# Gerät\r\n10: 20\r\n".encode("latin-1")
         shown = self.said(read_pool, self.file(data))
         self.assertEqual(shown, "given:2:6: the byte E4 here is not UTF-8: save the file as UTF-8\n  # Ger\ufffdt\n       ^")
+
+    def test_latin_at_the_beginning(self) -> None:
+        shown = self.said(read_book, self.file("Éa".encode("latin-1") + RING.encode()))
+        self.assertTrue(shown.startswith("given:1:1: the byte C9 here is not UTF-8"), shown)
+
+    def test_text_beyond_ascii(self) -> None:
+        book, _, _ = read_book(self.file("größe { emp => größe() } # ✓".encode()))
+        self.assertEqual(book.predicates[0].name, "größe")
 
     def test_told_by_content(self) -> None:
         for data in (b"", b"a\t\n\r", "ä".encode(), b"\x7f"):
