@@ -21,10 +21,10 @@ NO_TEXT = frozenset(range(9)) | frozenset(range(14, 32))
 PRINTABLE = frozenset(range(32, 127)) | {9, 10, 13}
 
 
-def read_bytes(path: str) -> bytes:
+def read_bytes(path: str, most: int = MOST_BYTES) -> bytes:
     name = source_name(path)
     try:
-        data = _standard_input() if path == "-" else _file(path)
+        data = _standard_input(most) if path == "-" else _file(path, most)
     except FileNotFoundError:
         raise Mistake(f"there is no such file{_near_file(path)}", name) from None
     except IsADirectoryError:
@@ -33,8 +33,9 @@ def read_bytes(path: str) -> bytes:
         raise Mistake("this file may not be read: see to its permissions", name) from None
     except (OSError, ValueError) as fault:
         raise Mistake(f"this cannot be read ({getattr(fault, 'strerror', None) or fault}): name another file", name) from None
-    if len(data) > MOST_BYTES:
-        raise Mistake("this is larger than 1 MB, as no book or pool is: name another file", name)
+    if len(data) > most:
+        what = "book or pool" if most == MOST_BYTES else "unfolding"
+        raise Mistake(f"this is larger than {most >> 20} MB, as no {what} is: name another file", name)
     return data
 
 
@@ -43,15 +44,15 @@ def source_name(path: str) -> str:
     return "standard input" if path == "-" else path
 
 
-def _standard_input() -> bytes:
+def _standard_input(most: int) -> bytes:
     if sys.stdin is None:
         raise OSError("standard input is closed")
-    return sys.stdin.buffer.read(MOST_BYTES + 1)
+    return sys.stdin.buffer.read(most + 1)
 
 
-def _file(path: str) -> bytes:
+def _file(path: str, most: int) -> bytes:
     with open(path, "rb") as file:
-        return file.read(MOST_BYTES + 1)
+        return file.read(most + 1)
 
 
 def _near_file(path: str) -> str:

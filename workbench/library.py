@@ -1,0 +1,133 @@
+"""The proved library, called from Python. It is made of the crates where it is missing or older than their code."""
+
+import ctypes
+import os
+import shutil
+import subprocess
+import sys
+import threading
+from collections.abc import Sequence
+from dataclasses import dataclass
+from pathlib import Path
+
+from workbench.mistake import Mistake
+
+ROOT = Path(__file__).resolve().parent.parent
+LIBRARY = ROOT / "target" / "libshapes.so"
+ARCHIVE = ROOT / "target" / "staticlib" / "libshapes.a"
+MOST_LINES = 65_535
+LAST_LINES_SHOWN = 10
+
+BYTES = ctypes.POINTER(ctypes.c_uint8)
+WORDS = ctypes.POINTER(ctypes.c_uint64)
+BLOCKS = [BYTES, ctypes.c_size_t] * 3
+
+
+@dataclass(frozen=True)
+class Reply:
+    """`words` has three for each of the lines, and none where there is no unfolding."""
+
+    refusal: int
+    verdict: int = 0
+    facts: int = 0
+    rounds: int = 0
+    lines: int = 0
+    words: tuple[int, ...] = ()
+
+
+def decide(book: bytes, snapshot: bytes, question: bytes, lines: int) -> Reply:
+    """Asks the engine, and lends it a table of that many lines with the space for an unfolding."""
+    if not 1 <= lines <= MOST_LINES:
+        raise ValueError(f"lines: {lines} is not between 1 and {MOST_LINES}")
+    table, space = (ctypes.c_uint64 * lines)(), (ctypes.c_uint64 * (3 * lines))()
+    numbers = [ctypes.c_uint64() for _ in range(4)]
+    lent = _blocks(book, snapshot, question) + [table, lines, space, 3 * lines] + [ctypes.byref(number) for number in numbers]
+    refusal = _call(_loaded().shapes_decide, lent)
+    verdict, facts, rounds, written = (number.value for number in numbers)
+    return Reply(refusal, verdict, facts, rounds, written, tuple(space[: 3 * written]))
+
+
+def check(book: bytes, snapshot: bytes, question: bytes, words: Sequence[int]) -> tuple[int, int]:
+    """The refusal, and 1 where the unfolding is taken."""
+    taken = ctypes.c_uint64()
+    # A pointer must not be null even where there is nothing behind it: hence one word at least.
+    lent = (ctypes.c_uint64 * max(1, len(words)))(*words)
+    refusal = _call(_loaded().shapes_check, _blocks(book, snapshot, question) + [lent, len(words), ctypes.byref(taken)])
+    return refusal, taken.value
+
+
+def _blocks(*blocks: bytes) -> list:
+    lent = []
+    for block in blocks:
+        lent += [(ctypes.c_uint8 * max(1, len(block)))(*block), len(block)]
+    return lent
+
+
+def _call(entry, lent: list) -> int:
+    """Calls in a thread of its own, since Python looks at Ctrl-C only between its own steps and a long table takes a while."""
+    results: list[int] = []
+    thread = threading.Thread(target=lambda: results.append(entry(*lent)), daemon=True)
+    thread.start()
+    thread.join()
+    return results[0]
+
+
+_library: ctypes.CDLL | None = None
+
+
+def _loaded() -> ctypes.CDLL:
+    global _library
+    if _library is None:
+        if is_stale(LIBRARY, sources(ROOT)):
+            make()
+        _library = _declared(LIBRARY)
+    return _library
+
+
+def _declared(path: Path) -> ctypes.CDLL:
+    try:
+        library = ctypes.CDLL(str(path))
+        library.shapes_decide.argtypes = BLOCKS + [WORDS, ctypes.c_size_t] * 2 + [WORDS] * 4
+        library.shapes_check.argtypes = BLOCKS + [WORDS, ctypes.c_size_t, WORDS]
+    except (OSError, AttributeError) as fault:
+        raise Mistake(f"cannot be used: {fault}; delete it, and it is made again", shown(path)) from fault
+    library.shapes_decide.restype = library.shapes_check.restype = ctypes.c_uint64
+    return library
+
+
+def sources(root: Path) -> list[Path]:
+    return sorted(root.glob("crates/*/src/*.rt"))
+
+
+def is_stale(library: Path, code: list[Path]) -> bool:
+    if not library.exists():
+        return True
+    made = library.stat().st_mtime
+    return any(path.stat().st_mtime > made for path in code)
+
+
+def make() -> None:
+    """Proves the library and links it. A new one takes the old one's place in one step, so that no program loads half a file."""
+    for tool, advice in (("rt", "install the Rattle kit"), ("gcc", "install gcc (Debian: gcc)")):
+        if shutil.which(tool) is None:
+            raise Mistake(f"{tool} is not on the path, and {shown(LIBRARY)} is to be made: {advice}")
+    print(f"making {shown(LIBRARY)}: the library is proved first, which takes some minutes", file=sys.stderr, flush=True)
+    _run(["rt", "staticlib", "shapes"])
+    made = LIBRARY.with_name(f"libshapes.{os.getpid()}.so")
+    try:
+        _run(["gcc", "-shared", "-Wl,--whole-archive", str(ARCHIVE), "-Wl,--no-whole-archive", "-o", str(made)])
+        made.rename(LIBRARY)
+    finally:
+        made.unlink(missing_ok=True)
+
+
+def _run(command: list[str]) -> None:
+    done = subprocess.run(command, cwd=ROOT, stdin=subprocess.DEVNULL, stdout=subprocess.PIPE, stderr=subprocess.STDOUT, check=False)
+    if done.returncode:
+        end = done.stdout.decode(errors="replace").splitlines()[-LAST_LINES_SHOWN:]
+        print("\n".join(["...", *end]), file=sys.stderr, flush=True)
+        raise Mistake(f"`{' '.join(command[:3])}` failed with status {done.returncode}: correct what it says above, and ask again")
+
+
+def shown(path: Path) -> str:
+    return str(path.relative_to(ROOT)) if path.is_relative_to(ROOT) else str(path)

@@ -1,0 +1,21 @@
+"""What each refusal means, for someone who writes shapes or looks at a pool and does not think in bytes."""
+
+SENTENCES = {
+    1: "the book ends too early: look for a lost end, or for a count that announces more than there is",
+    2: "a count in the book is out of its range: keep to 1 to 8 predicates of at most 4 arguments, 16 rules, and in a rule to 8 variables "
+    "(arguments included), 8 conditions, 4 cells of 4 fields, 3 calls",
+    3: "the book names something that is not there: use the book's own predicates, equal or unequal, and the rule's own variables or nil; "
+    "a cell's address is a variable and never nil",
+    4: "the book goes on after its last rule: look for a count that announces less than there is",
+    5: "the snapshot ends too early: look for a lost end, or for a count that announces more than there is",
+    6: "the pool is too large: at most 16 records, each with at most 4 fields",
+    7: "an address is nil, or the addresses do not ascend: sort the records by address, and give no two the same",
+    8: "the snapshot goes on after its last record: look for a count that announces less than there is",
+    9: "the question is not one about this book: name one of its predicates, with as many values as that has arguments and nothing more",
+    10: "the memory lent does not fit together: lend a table of 1 to 65,535 words and an unfolding space of three times as many",
+    11: "there are more than 65,535 facts: see whether a rule leaves an argument of its predicate free, which then takes every kept value",
+}
+
+
+def sentence(refusal: int) -> str:
+    return SENTENCES.get(refusal, "a number that this workbench does not know; it and the library are not of one version")

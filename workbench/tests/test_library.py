@@ -1,0 +1,118 @@
+import os
+import tempfile
+import unittest
+from contextlib import redirect_stderr
+from io import StringIO
+from pathlib import Path
+from unittest import mock
+
+from workbench import library
+from workbench.mistake import Mistake
+from workbench.tests.engine_samples import FROM_TEN_TO_TEN_BYTES, L_BYTES, NOTHING_BYTES, S_BYTES, TWO_BYTES, TWO_WORDS
+
+
+class Calls(unittest.TestCase):
+    def test_fits_with_its_unfolding(self):
+        reply = library.decide(L_BYTES, TWO_BYTES, FROM_TEN_TO_TEN_BYTES, 1024)
+        self.assertEqual((reply.refusal, reply.verdict, reply.facts, reply.rounds, reply.lines), (0, 1, 10, 3, 3))
+        self.assertEqual(reply.words, TWO_WORDS)
+
+    def test_does_not_fit(self):
+        question = bytes.fromhex("00 02 0A000000 14000000")
+        self.assertEqual(library.decide(L_BYTES, TWO_BYTES, question, 1024), library.Reply(0, 0, 10, 3, 0, ()))
+
+    def test_spares(self):
+        reply = library.decide(S_BYTES, NOTHING_BYTES, bytes.fromhex("00 01 00000000"), 1024)
+        self.assertEqual((reply.verdict, reply.facts, reply.rounds, reply.lines), (1, 12, 2, 2))
+
+    def test_refusals(self):
+        cases = {
+            1: (L_BYTES[:-1], TWO_BYTES, FROM_TEN_TO_TEN_BYTES, 1024),
+            4: (L_BYTES + b"\0", TWO_BYTES, FROM_TEN_TO_TEN_BYTES, 1024),
+            5: (L_BYTES, b"", FROM_TEN_TO_TEN_BYTES, 1024),
+            9: (L_BYTES, TWO_BYTES, b"", 1024),
+            11: (L_BYTES, TWO_BYTES, FROM_TEN_TO_TEN_BYTES, 9),
+        }
+        for refusal, asked in cases.items():
+            with self.subTest(refusal=refusal):
+                self.assertEqual(library.decide(*asked), library.Reply(refusal))
+        self.assertEqual(library.decide(b"", b"", b"", 1), library.Reply(1))
+
+    def test_lines_in_range(self):
+        self.assertEqual(library.decide(L_BYTES, TWO_BYTES, FROM_TEN_TO_TEN_BYTES, 65_535).lines, 3)
+        for lines in (0, 65_536):
+            self.assertRaises(ValueError, library.decide, L_BYTES, TWO_BYTES, FROM_TEN_TO_TEN_BYTES, lines)
+
+    def test_check(self):
+        asked = L_BYTES, TWO_BYTES, FROM_TEN_TO_TEN_BYTES
+        self.assertEqual(library.check(*asked, TWO_WORDS), (0, 1))
+        self.assertEqual(library.check(*asked, TWO_WORDS[:-1]), (0, 0))
+        self.assertEqual(library.check(*asked, ()), (0, 0))
+        self.assertEqual(library.check(b"", TWO_BYTES, FROM_TEN_TO_TEN_BYTES, TWO_WORDS), (1, 0))
+
+
+class Making(unittest.TestCase):
+    def setUp(self):
+        folder = tempfile.TemporaryDirectory()
+        self.addCleanup(folder.cleanup)
+        self.root = Path(folder.name)
+        (self.root / "crates/one/src").mkdir(parents=True)
+        (self.root / "target").mkdir()
+        (self.root / "tools").mkdir()
+        self.code = self.root / "crates/one/src/lib.rt"
+        self.code.write_text("")
+        self.library = self.root / "target/libshapes.so"
+        names = {"ROOT": self.root, "LIBRARY": self.library, "ARCHIVE": self.root / "target/staticlib/libshapes.a"}
+        for name, value in names.items():
+            self.enterContext(mock.patch.object(library, name, value))
+        self.enterContext(mock.patch.dict(os.environ, {"PATH": f"{self.root}/tools"}))
+        self.said = StringIO()
+        self.enterContext(redirect_stderr(self.said))
+
+    def tool(self, name: str, text: str) -> None:
+        path = self.root / "tools" / name
+        path.write_text(f"#!/bin/sh\n{text}\n")
+        path.chmod(0o755)
+
+    def test_stale(self):
+        code = library.sources(self.root)
+        self.assertEqual(code, [self.code])
+        self.assertTrue(library.is_stale(self.library, code))
+        self.library.write_text("")
+        os.utime(self.code, (1000, 1000))
+        os.utime(self.library, (2000, 2000))
+        self.assertFalse(library.is_stale(self.library, code))
+        os.utime(self.code, (3000, 3000))
+        self.assertTrue(library.is_stale(self.library, code))
+
+    def test_made_of_what_the_tools_write(self):
+        self.tool("rt", "true")
+        self.tool("gcc", 'for last; do :; done; echo "$@" > "$last"')
+        library.make()
+        self.assertIn("--whole-archive", self.library.read_text())
+        self.assertEqual(list((self.root / "target").iterdir()), [self.library])
+        self.assertIn("making target/libshapes.so: the library is proved first, which takes some minutes\n", self.said.getvalue())
+
+    def test_missing_tools(self):
+        with self.assertRaisesRegex(Mistake, "rt is not on the path"):
+            library.make()
+        self.tool("rt", "true")
+        with self.assertRaisesRegex(Mistake, "gcc is not on the path"):
+            library.make()
+
+    def test_failing_tools(self):
+        self.tool("gcc", "echo no such archive >&2; exit 1")
+        self.tool("rt", "echo one; echo two >&2; exit 3")
+        with self.assertRaisesRegex(Mistake, "`rt staticlib shapes` failed with status 3"):
+            library.make()
+        self.assertIn("\n...\none\ntwo\n", self.said.getvalue())
+        self.tool("rt", "true")
+        with self.assertRaisesRegex(Mistake, "`gcc -shared .*` failed with status 1"):
+            library.make()
+        self.assertIn("no such archive", self.said.getvalue())
+        self.assertFalse(self.library.exists())
+
+    def test_no_library(self):
+        self.library.write_text("rubbish")
+        with self.assertRaisesRegex(Mistake, "delete it"):
+            library._declared(self.library)
