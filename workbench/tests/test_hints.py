@@ -1,0 +1,44 @@
+import unittest
+
+from workbench.hints import Dangling, Held, Hints, Outside, Place, Unreached, hints, reached_from
+from workbench.model import Pool, Question, Record
+
+
+def pool(**records: tuple[int, ...]) -> Pool:
+    """r10=(20,) is the record 10 with one field, 20."""
+    return Pool(tuple(Record(int(name[1:]), fields) for name, fields in records.items()))
+
+
+class Looked(unittest.TestCase):
+    def test_nothing(self):
+        found = hints(pool(r10=(20,), r20=(0,)), Question(0, (10, 0)))
+        self.assertEqual(found, Hints())
+        self.assertFalse(found)
+
+    def test_hung_in_two_places(self):
+        found = hints(pool(r10=(30,), r20=(30,), r30=(0,)), Question(0, (10, 20)))
+        self.assertEqual(found, Hints(held=(Held(30, (Place(10, 1), Place(20, 1))),)))
+        self.assertTrue(found)
+
+    def test_twice_in_one_record(self):
+        found = hints(pool(r10=(20, 20), r20=(10,)), Question(0, (10,)))
+        self.assertEqual(found.held, (Held(20, (Place(10, 1), Place(10, 2))),))
+
+    def test_a_doubly_linked_list_is_no_reason(self):
+        self.assertFalse(hints(pool(r10=(20, 0), r20=(30, 10), r30=(0, 20)), Question(0, (10, 30))))
+
+    def test_but_a_third_pointer_into_it_is(self):
+        found = hints(pool(r5=(20,), r10=(20, 0), r20=(30, 10), r30=(0, 20)), Question(0, (10, 5)))
+        self.assertEqual(found.held, (Held(20, (Place(5, 1), Place(10, 1), Place(30, 2))),))
+
+    def test_no_way_leads_there(self):
+        found = hints(pool(r10=(0,), r20=(20,), r30=(40,), r40=(30,)), Question(0, (10,)))
+        self.assertEqual(found.unreached, (Unreached(20, ()), Unreached(30, (40,)), Unreached(40, (30,))))
+
+    def test_dangling(self):
+        found = hints(pool(r10=(20, 7), r20=(8,)), Question(0, (10, 8, 9, 0)))
+        self.assertEqual(found.dangling, (Dangling(Place(10, 2), 7, False), Dangling(Place(20, 1), 8, True)))
+        self.assertEqual(found.outside, (Outside(2, 8), Outside(3, 9)))
+
+    def test_reached_nearest_first(self):
+        self.assertEqual(reached_from((5, 1), pool(r1=(2, 3), r2=(4,), r3=(1, 0), r4=(9,), r6=(1,))), [1, 2, 3, 4])
