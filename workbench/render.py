@@ -1,0 +1,93 @@
+"""Answers as text for people. What it says of verdict and tree is the engine's; hints are the workbench's own, and it says so."""
+
+from collections.abc import Iterable
+
+from workbench.asking import DOES_NOT_FIT, FITS, REFUSED, Answer
+from workbench.hints import Hints, Place, Unreached
+from workbench.names import Names
+from workbench.refusals import sentence
+from workbench.unfolding import Node, tree
+
+# Deeper nodes stand no further to the right and have their depth in front.
+MOST_INDENTED = 30
+HINTS_AHEAD = "Hints on where to look. They come from the pool and the question's values alone; the verdict is the engine's."
+ORDINALS = ("first", "second", "third", "fourth")
+
+
+def answer_text(answer: Answer) -> str:
+    if answer.kind == REFUSED:
+        return refusal_text(answer.reply.refusal) + "\n" + (f"  {answer.detail}\n" if answer.detail else "")
+    rows = _tree_rows(answer) if answer.kind == FITS else _hint_rows(answer)
+    return "".join(row + "\n" for row in [answer.kind, *rows])
+
+
+def refusal_text(refusal: int) -> str:
+    return f"refusal {refusal}: {sentence(refusal)}"
+
+
+def short_text(answer: Answer) -> str:
+    """One line, for a row among those of other pools."""
+    return refusal_text(answer.reply.refusal) if answer.kind == REFUSED else answer.kind
+
+
+def sum_text(kinds: list[str]) -> str:
+    """What came of all pools, by kind; kinds of which there is none are left out, except that of a pool that fits."""
+    fit, not_fit, refused = kinds.count(FITS), kinds.count(DOES_NOT_FIT), kinds.count(REFUSED)
+    not_read = len(kinds) - fit - not_fit - refused
+    parts = [f"{fit} fits" if fit == 1 else f"{fit} fit"]
+    if not_fit:
+        parts.append(f"{not_fit} does not" if not_fit == 1 else f"{not_fit} do not")
+    parts += [f"{refused} refused"] * bool(refused) + [f"{not_read} not read"] * bool(not_read)
+    return f"{len(kinds)} pool{'s' * (len(kinds) != 1)}: {', '.join(parts)}"
+
+
+def _tree_rows(answer: Answer) -> list[str]:
+    names = Names(answer.asked)
+    return aligned(_node_cells(node, names) for node in tree(answer.lines))
+
+
+def _node_cells(node: Node, names: Names) -> list[str]:
+    line = node.line
+    deep = f"({node.depth}) " if node.depth > MOST_INDENTED else ""
+    head = "  " * min(node.depth, MOST_INDENTED) + deep + names.holding(line.predicate, line.arguments)
+    if node.as_above:
+        return [head, names.rule(line.rule), "as above"]
+    bound = ", ".join(f"{name} = {names.value(value)}{' (spare)' * names.is_spare(value)}" for name, value in names.bound(line))
+    return [head, names.rule(line.rule), f"takes {names.values(line.takes) or 'nothing'}", bound]
+
+
+def aligned(rows: Iterable[list[str]]) -> list[str]:
+    """Cells in columns, each as wide as its widest cell, three spaces apart."""
+    table = list(rows)
+    widths = [max(len(row[i]) for row in table if i < len(row)) for i in range(max(map(len, table), default=0))]
+    return ["   ".join(cell.ljust(width) for cell, width in zip(row, widths)).rstrip() for row in table]
+
+
+def _hint_rows(answer: Answer) -> list[str]:
+    if not answer.hints:
+        return ["No hints: every field and every value of the question is nil or names a record, no record is held in two places, and the",
+                "question's values lead to every record."]  # fmt: skip
+    rows = hint_sentences(answer.hints, Names(answer.asked))
+    return [HINTS_AHEAD] + [f"  {row}" for row in rows]
+
+
+def hint_sentences(found: Hints, names: Names) -> list[str]:
+    value = names.value
+    rows = [f"{value(held.record)} is held by {len(held.places)} fields: {_places(held.places, names)}" for held in found.held]
+    rows += [_unreached(lost, names) for lost in found.unreached]
+    for loose in found.dangling:
+        asked = ", which names no record (the question names it too)" if loose.asked else ", which is not nil and names no record"
+        rows.append(f"{_places([loose.place], names)} holds {value(loose.value)}{asked}")
+    for outside in found.outside:
+        rows.append(f"the question's {ORDINALS[outside.argument - 1]} value {value(outside.value)} is not nil and names no record")
+    return rows
+
+
+def _places(places: Iterable[Place], names: Names) -> str:
+    return ", ".join(f"field {place.field} of {names.value(place.record)}" for place in places)
+
+
+def _unreached(lost: Unreached, names: Names) -> str:
+    if not lost.by:
+        return f"{names.value(lost.record)} is held by no other record, and the question does not name it"
+    return f"{names.value(lost.record)} cannot be reached from the question's values; held by {names.values(lost.by)}"

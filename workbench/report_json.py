@@ -1,0 +1,78 @@
+"""Answers in JSON, for other programs: docs/WORKBENCH.md describes the form. Whoever changes it in a way that a reader could notice gives
+it a new number."""
+
+import json
+
+from workbench.asking import Answer
+from workbench.hints import Hints, Place
+from workbench.mistake import Mistake
+from workbench.model import Book, Question
+from workbench.names import Names
+from workbench.refusals import sentence
+from workbench.unfolding import Line
+
+FORMAT = 1
+NOT_READ = "not read"
+
+
+def report(book_name: str, book: Book | None, question: Question | None, results: list[dict]) -> str:
+    asked = None
+    if book and question:
+        asked = {"predicate": book.predicates[question.predicate].name, "values": list(question.values)}
+    whole = {"format": FORMAT, "book": book_name, "question": asked, "results": results}
+    return json.dumps(whole, indent=2, ensure_ascii=False) + "\n"
+
+
+def result(pool_name: str, answer: Answer) -> dict:
+    refusal = answer.reply.refusal
+    return {
+        "pool": pool_name,
+        "answer": answer.kind,
+        "refusal": refusal,
+        "message": "\n".join(filter(None, (sentence(refusal), answer.detail))) if refusal else "",
+        "facts": answer.reply.facts,
+        "rounds": answer.reply.rounds,
+        "unfolding": _unfolding(answer),
+        "hints": _hints(answer.hints),
+    }
+
+
+def not_read(pool_name: str, mistake: Mistake) -> dict:
+    """The result of a pool that never reached the engine."""
+    whole = {"pool": pool_name, "answer": NOT_READ, "refusal": 0, "message": str(mistake), "facts": 0, "rounds": 0, "unfolding": []}
+    return whole | {"hints": _hints(Hints())}
+
+
+def _unfolding(answer: Answer) -> list[dict]:
+    if not answer.lines:
+        return []
+    names = Names(answer.asked)
+    return [_line(line, names) for line in answer.lines]
+
+
+def _line(line: Line, names: Names) -> dict:
+    rule = names.book.rules[line.rule]
+    return {
+        "line": line.number,
+        "predicate": names.book.predicates[line.predicate].name,
+        "values": list(line.arguments),
+        "records": list(line.records),
+        "rule": line.rule + 1,
+        "book_line": rule.line,
+        "takes": list(line.takes),
+        "variables": [{"name": name, "value": value} for name, value in zip(rule.variables, line.values)],
+        "calls": list(line.calls),
+    }
+
+
+def _hints(found: Hints) -> dict:
+    return {
+        "held": [{"record": held.record, "by": [_place(place) for place in held.places]} for held in found.held],
+        "unreached": [{"record": lost.record, "by": list(lost.by)} for lost in found.unreached],
+        "dangling": [_place(loose.place) | {"value": loose.value, "asked": loose.asked} for loose in found.dangling],
+        "outside": [{"argument": outside.argument, "value": outside.value} for outside in found.outside],
+    }
+
+
+def _place(place: Place) -> dict:
+    return {"record": place.record, "field": place.field}

@@ -1,0 +1,106 @@
+"""Pictures against stored ones. Whoever changes how they look runs `python3 -m workbench.tests.test_draw --store` and looks at them."""
+
+import random
+import shutil
+import subprocess
+import sys
+import unittest
+from pathlib import Path
+from unittest import mock
+
+from workbench.asking import Answer, ask
+from workbench.operands import read_asked
+from workbench.draw import dot_text, format_of, picture
+from workbench.library import ROOT
+from workbench.mistake import Mistake
+from workbench.model import Pool, Question, Record
+from workbench.tests.engine_samples import H
+from workbench.tests.test_render import asked
+
+PICTURES = Path(__file__).parent / "pictures"
+DRAWN = {
+    "segment": ("segment.book", "segment.pool", "segment(10, nil)"),
+    "circle": ("segment.book", "circle.pool", "segment(10, 10)"),
+    "tree": ("tree.book", "tree.pool", "tree(10)"),
+    "dll": ("dll.book", "dll.pool", "dll(0x100, nil, 0x130, nil)"),
+    "dll-broken": ("dll.book", "dll-broken.pool", "dll(0x100, nil, 0x130, nil)"),
+    "queue": ("house.book", "queue.pool", "queue_and_free(0x10, 0x40)"),
+    "ring": ("house.book", "ring.pool", "ring(0x10)"),
+    "hung-twice": ("house.book", "hung-twice.pool", "queue_and_free(0x10, 0x40)"),
+    "lost": ("house.book", "lost.pool", "queue_and_free(0x10, 0x40)"),
+}
+
+
+def answered(name: str) -> Answer:
+    book, pool, question = DRAWN[name]
+    return ask(read_asked(str(ROOT / "examples" / book), str(ROOT / "examples" / pool), question))
+
+
+class Stored(unittest.TestCase):
+    def test_as_stored(self):
+        for name in DRAWN:
+            with self.subTest(name=name):
+                self.assertEqual(dot_text(answered(name)), (PICTURES / f"{name}.dot").read_text())
+
+    def test_nothing_else_is_stored(self):
+        self.assertEqual(sorted(path.stem for path in PICTURES.iterdir()), sorted(DRAWN))
+
+
+class Said(unittest.TestCase):
+    def test_whatever_a_colour_says_is_in_words_too(self):
+        self.assertIn(">ring takes 1 record<", dot_text(answered("ring")))
+        self.assertIn('<FONT POINT-SIZE="9">ring</FONT>', dot_text(answered("ring")))
+        twice = dot_text(answered("hung-twice"))
+        self.assertIn("held by 2 fields", twice)
+        self.assertIn("held by none", twice)
+        self.assertIn("no record", dot_text(answered("lost")))
+
+    def test_no_record_and_no_hints(self):
+        self.assertIn("the pool has no record", dot_text(ask(asked(H, Pool(()), Question(0, (5, 5))))))
+        self.assertIn("no hints", dot_text(ask(asked(H, Pool((Record(1, (0,)),)), Question(0, (1, 1))))))
+
+    def test_formats(self):
+        self.assertEqual([format_of(name) for name in ("a.svg", "b/c.PNG", "d.e.dot")], ["svg", "png", "dot"])
+        for name in ("a", "a.jpg", ".svg", ""):
+            self.assertRaises(Mistake, format_of, name)
+
+    def test_without_graphviz(self):
+        with mock.patch.dict("os.environ", {"PATH": ""}):
+            self.assertEqual(picture("digraph { }", "dot"), b"digraph { }")
+            with self.assertRaisesRegex(Mistake, "apt-get install graphviz"):
+                picture("digraph { }", "svg")
+
+
+@unittest.skipUnless(shutil.which("dot"), "Graphviz is not installed")
+class Laid(unittest.TestCase):
+    def laid_out_without_a_word(self, text: str) -> None:
+        done = subprocess.run(["dot", "-Tsvg"], input=text.encode(), capture_output=True, check=False)
+        self.assertEqual((done.returncode, done.stderr), (0, b""))
+        self.assertIn(b"</svg>", done.stdout)
+
+    def test_each_stored_picture(self):
+        for name in DRAWN:
+            with self.subTest(name=name):
+                self.laid_out_without_a_word((PICTURES / f"{name}.dot").read_text())
+
+    def test_png(self):
+        self.assertTrue(picture(dot_text(answered("ring")), "png").startswith(b"\x89PNG"))
+
+    def test_no_dot(self):
+        with self.assertRaisesRegex(Mistake, "could not lay out"):
+            picture("digraph {", "svg")
+
+    def test_pools_of_every_kind(self):
+        chance = random.Random(3)
+        for i in range(60):
+            addresses = sorted(chance.sample(range(1, 25), chance.randrange(17)))
+            values = [0, 30, 40, *addresses]
+            records = [Record(address, tuple(chance.choices(values, k=chance.randrange(5)))) for address in addresses]
+            question = Question(chance.choice((0, 2)), tuple(chance.choices(values, k=2)))
+            with self.subTest(pool=i):
+                self.laid_out_without_a_word(dot_text(ask(asked(H, Pool(tuple(records)), question))))
+
+
+if __name__ == "__main__" and "--store" in sys.argv:
+    for each in DRAWN:
+        (PICTURES / f"{each}.dot").write_text(dot_text(answered(each)))

@@ -1,0 +1,131 @@
+import unittest
+from dataclasses import replace
+
+from workbench.asking import DOES_NOT_FIT, FITS, REFUSED, Answer, Asked, ask
+from workbench.book_bytes import encode_book
+from workbench.library import Reply
+from workbench.model import Book, Call, Condition, Pool, Predicate, Question, Record, Rule, UNEQUAL
+from workbench.pool_bytes import encode_pool
+from workbench.question_bytes import encode_question
+from workbench.render import aligned, answer_text, short_text, sum_text
+from workbench.tests.engine_samples import FROM_TEN_TO_TEN, H, L, NOTHING, S, TWO
+from workbench.unfolding import Line
+
+
+def asked(book: Book, pool: Pool, question: Question) -> Asked:
+    return Asked(encode_book(book), encode_pool(pool), encode_question(question), book, pool, question)
+
+
+def text(book: Book, pool: Pool, question: Question) -> str:
+    return answer_text(ask(asked(book, pool, question)))
+
+
+class Fits(unittest.TestCase):
+    def test_tree(self):
+        self.assertEqual(
+            text(L, TWO, FROM_TEN_TO_TEN),
+            "fits\n"
+            "segment(10, 10)       rule 2 (line 4)   takes 10        c = 20\n"
+            "  segment(20, 10)     rule 2 (line 4)   takes 20        c = 10\n"
+            "    segment(10, 10)   rule 1 (line 3)   takes nothing\n",
+        )
+
+    def test_spare_and_no_line_in_the_book(self):
+        self.assertEqual(
+            text(S, NOTHING, Question(0, (0,))),
+            "fits\nP(nil)        rule 1   takes nothing   b = 1 (spare)\n  Q(nil, 1)   rule 2   takes nothing\n",
+        )
+
+    def test_as_the_user_spelled(self):
+        pool = replace(TWO, spellings=((10, "0x0A"),))
+        question = replace(FROM_TEN_TO_TEN, spellings=((10, "0xa"),))
+        self.assertIn("takes 0x0A ", text(L, pool, FROM_TEN_TO_TEN))
+        self.assertIn("segment(0xa, 0xa)", text(L, TWO, question))
+
+    def test_no_arguments(self):
+        book = Book((Predicate("p", 0),), (Rule(0, ()),))
+        self.assertEqual(text(book, NOTHING, Question(0, ())), "fits\np()   rule 1   takes nothing\n")
+
+    def answered(self, *lines: Line) -> str:
+        whole = asked(L, TWO, FROM_TEN_TO_TEN)
+        return answer_text(Answer(whole, Reply(0, 1, lines=len(lines)), lines))
+
+    def test_a_subtree_that_comes_again_and_again(self):
+        lines = [Line(1, 0, (10, 10), (), 0, (10, 10), (), ())]
+        for number in range(2, 21):
+            lines.append(Line(number, 0, (number, 10), (), 1, (number, 10, 20), (), (number - 1, number - 1)))
+        rows = self.answered(*lines).splitlines()
+        self.assertEqual(len(rows), 1 + 1 + 2 * 19)
+        self.assertEqual(rows[2].split("rule")[0], rows[-1].split("rule")[0])
+        self.assertTrue(rows[-1].startswith("  segment(19, 10)") and rows[-1].endswith("rule 2 (line 4)   as above"))
+
+    def test_depth_in_front_where_it_is_large(self):
+        lines = [Line(1, 0, (10, 10), (), 0, (10, 10), (), ())]
+        lines += [Line(number, 0, (10, 10), (), 1, (10, 10, 20), (), (number - 1,)) for number in range(2, 101)]
+        self.assertIn("\n" + 30 * "  " + "(99) segment(10, 10)", self.answered(*lines))
+
+
+class DoesNotFit(unittest.TestCase):
+    def test_hints(self):
+        pool = Pool((Record(10, (30,)), Record(20, (30,)), Record(30, (7,)), Record(40, (50,)), Record(50, (40, 8)), Record(60, (0,))))
+        self.assertEqual(
+            text(H, pool, Question(2, (10, 8))),
+            "does not fit\n"
+            "Hints on where to look. They come from the pool and the question's values alone; the verdict is the engine's.\n"
+            "  30 is held by 2 fields: field 1 of 10, field 1 of 20\n"
+            "  20 is held by no other record, and the question does not name it\n"
+            "  40 cannot be reached from the question's values; held by 50\n"
+            "  50 cannot be reached from the question's values; held by 40\n"
+            "  60 is held by no other record, and the question does not name it\n"
+            "  field 1 of 30 holds 7, which is not nil and names no record\n"
+            "  field 2 of 50 holds 8, which names no record (the question names it too)\n"
+            "  the question's second value 8 is not nil and names no record\n",
+        )
+
+    def test_no_hints(self):
+        answer = text(H, TWO, Question(2, (10, 0)))
+        self.assertTrue(answer.startswith("does not fit\nNo hints: "))
+        self.assertEqual(len(answer.splitlines()), 3)
+
+
+class Refused(unittest.TestCase):
+    def test_with_the_byte_at_fault(self):
+        whole = replace(asked(L, TWO, FROM_TEN_TO_TEN), book_bytes=encode_book(L)[:-1], book=None)
+        first, second = answer_text(ask(whole)).splitlines()
+        self.assertRegex(first, "^refusal 1: the book ends too early: ")
+        self.assertRegex(second, "^  byte 21 of the book: ")
+
+    def test_too_many_facts(self):
+        # Four free arguments over some ninety kept values are far more than 65,535 facts.
+        book = Book((Predicate("p", 4),), (Rule(0, ("a", "b", "c", "d")),))
+        pool = Pool(tuple(Record(100 * i, (1000 * i, 2000 * i)) for i in range(1, 17)))
+        self.assertRegex(text(book, pool, Question(0, (1, 2, 3, 4))), "^refusal 11: there are more than 65,535 facts: ")
+
+    def test_more_than_the_first_table(self):
+        # Three free arguments over 13 kept values: 2,197 facts for q, and those for p.
+        book = Book(
+            (Predicate("p", 0), Predicate("q", 3)),
+            (
+                Rule(0, ("a", "b", "c"), (Condition(UNEQUAL, 0, 1),), (), (Call(1, (0, 1, 2)),)),
+                Rule(1, tuple("abcdefgh")),
+            ),
+        )
+        pool = Pool(())
+        answer = ask(asked(book, pool, Question(1, (10, 20, 30))))
+        self.assertEqual((answer.kind, answer.reply.facts), (FITS, 12**3 + 1))
+
+
+class Rows(unittest.TestCase):
+    def test_short(self):
+        self.assertEqual(short_text(ask(asked(L, TWO, FROM_TEN_TO_TEN))), "fits")
+        self.assertEqual(short_text(Answer(asked(L, TWO, FROM_TEN_TO_TEN), Reply(7)))[:10], "refusal 7:")
+
+    def test_sums(self):
+        self.assertEqual(sum_text([FITS, FITS, DOES_NOT_FIT]), "3 pools: 2 fit, 1 does not")
+        self.assertEqual(sum_text([FITS, DOES_NOT_FIT, DOES_NOT_FIT]), "3 pools: 1 fits, 2 do not")
+        self.assertEqual(sum_text([REFUSED, "not read", "not read"]), "3 pools: 0 fit, 1 refused, 2 not read")
+        self.assertEqual(sum_text([FITS]), "1 pool: 1 fits")
+
+    def test_aligned(self):
+        self.assertEqual(aligned([["a", "bb"], ["ccc"], ["d", "e", "f"]]), ["a     bb", "ccc", "d     e    f"])
+        self.assertEqual(aligned([]), [])
