@@ -1,0 +1,94 @@
+"""The verb `ask`: one pool with its grounds, or several with a row for each."""
+
+from collections.abc import Callable
+
+from workbench import report_json
+from workbench.asking import DOES_NOT_FIT, FITS, Answer, Asked, ask
+from workbench.mistake import Mistake
+from workbench.operands import one_standard_input, parsed, parser, read_question, write_file
+from workbench.output import complain, say, say_wrong
+from workbench.render import answer_text, short_text, sum_text
+from workbench.sources import read_book, read_pool, source_name
+from workbench.status import FAULT, NO, YES
+from workbench.unfolding import words_to_bytes
+
+
+def ask_verb(arguments: list[str]) -> int:
+    made = parser(
+        "ask",
+        "BOOK POOL [POOL ...] QUESTION [--json] [--save FILE]",
+        "Says whether a pool fits: with an unfolding where it does, with hints on where to look where it does not.\n"
+        "Status 0: every pool fits; 1: some do not; 2: a refusal, or something cannot be read.",
+        "./shapes ask examples/segment.book examples/segment.pool 'segment(10, nil)'",
+    )
+    made.add_argument("--json", action="store_true", help="print JSON, for other programs")
+    made.add_argument("--save", metavar="FILE", help="write the unfolding of the one pool to FILE, which `check` takes")
+    options = parsed(made, arguments, 3, None)
+    book_file, *pool_files, question_text = options.operands
+    if options.save and len(pool_files) > 1:
+        raise Mistake("--save writes the unfolding of one pool: name one pool")
+    one_standard_input((book_file, *pool_files))
+    book, book_bytes, book_name = read_book(book_file)
+    question, question_bytes = read_question(question_text, book)
+
+    def answer_about(pool_file: str) -> Answer:
+        pool, pool_bytes, _ = read_pool(pool_file)
+        return ask(Asked(book_bytes, pool_bytes, question_bytes, book, pool, question))
+
+    if options.json:
+        status, results = _ask_json(pool_files, answer_about, options.save)
+        say(report_json.report(book_name, book, question, results))
+        return status
+    return _ask_one(pool_files[0], answer_about, options.save) if len(pool_files) == 1 else _ask_many(pool_files, answer_about)
+
+
+def _ask_one(pool_file: str, answer_about: Callable[[str], Answer], save: str | None) -> int:
+    answer = answer_about(pool_file)
+    _save(answer, save)
+    say(answer_text(answer))
+    return status_of([answer.kind])
+
+
+def _ask_many(pool_files: list[str], answer_about: Callable[[str], Answer]) -> int:
+    """One row for each pool, as soon as it is there."""
+    width = max(len(source_name(file)) for file in pool_files)
+    kinds = []
+    for file in pool_files:
+        try:
+            answer = answer_about(file)
+            kind, words = answer.kind, short_text(answer)
+        except Mistake as mistake:
+            kind = words = report_json.NOT_READ
+            complain(mistake)
+        kinds.append(kind)
+        say(f"{source_name(file).ljust(width)}   {words}\n")
+    say(sum_text(kinds) + "\n")
+    return status_of(kinds)
+
+
+def _ask_json(pool_files: list[str], answer_about: Callable[[str], Answer], save: str | None) -> tuple[int, list[dict]]:
+    results = []
+    for file in pool_files:
+        try:
+            answer = answer_about(file)
+            _save(answer, save)
+            results.append(report_json.result(source_name(file), answer))
+        except Mistake as mistake:
+            complain(mistake)
+            results.append(report_json.not_read(source_name(file), mistake))
+    return status_of([result["answer"] for result in results]), results
+
+
+def _save(answer: Answer, save: str | None) -> None:
+    if save is None:
+        return
+    if answer.kind == FITS:
+        write_file(save, words_to_bytes(answer.reply.words))
+    else:
+        say_wrong(f"shapes: nothing is written to {save}: only a pool that fits has an unfolding\n")
+
+
+def status_of(kinds: list[str]) -> int:
+    if all(kind in (FITS, DOES_NOT_FIT) for kind in kinds):
+        return NO if DOES_NOT_FIT in kinds else YES
+    return FAULT

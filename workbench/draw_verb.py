@@ -1,0 +1,28 @@
+"""The verb `draw`: the picture of an answer, written to a file."""
+
+from workbench.asking import REFUSED, ask
+from workbench.draw import dot_text, format_of, picture
+from workbench.operands import parsed, parser, read_asked, write_file
+from workbench.output import say
+from workbench.render import refusal_text
+from workbench.status import FAULT, YES
+
+
+def draw_verb(arguments: list[str]) -> int:
+    made = parser(
+        "draw",
+        "BOOK POOL QUESTION -o FILE",
+        "Draws the pool: on fits which predicate takes which record, else where to look. FILE ends in .svg, .png or .dot;\n"
+        "the first two need Graphviz. Status 0 where the picture was drawn, fits or not; else 2.",
+        "./shapes draw house examples/queue.pool 'queue_and_free(0x10, 0x40)' -o queue.svg",
+    )
+    made.add_argument("-o", metavar="FILE", required=True, help="the picture's file")
+    options = parsed(made, arguments, 3, 3)
+    format_name = format_of(options.o)
+    answer = ask(read_asked(*options.operands))
+    if answer.kind == REFUSED:
+        say(refusal_text(answer.reply.refusal) + "\n")
+        return FAULT
+    write_file(options.o, picture(dot_text(answer), format_name))
+    say(f"{answer.kind}\n")
+    return YES

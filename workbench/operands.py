@@ -1,0 +1,65 @@
+"""What is given to the verbs: how it is parsed, and files and questions read."""
+
+import argparse
+from collections.abc import Sequence
+
+from workbench.asking import Asked
+from workbench.mistake import Mistake
+from workbench.model import Book, Question
+from workbench.question_bytes import encode_question
+from workbench.question_text import parse_question
+from workbench.sources import read_book, read_pool
+
+OPERANDS = """BOOK is a file with rules, as text or as bytes; the word house stands for the house book. POOL is a file with records, as
+text or as a snapshot's bytes. One of the files may be -, for standard input. A QUESTION is text, such as 'segment(10, nil)'."""
+
+
+def parser(verb: str, usage: str, what: str, example: str) -> argparse.ArgumentParser:
+    made = argparse.ArgumentParser(
+        prog=f"./shapes {verb}",
+        usage=f"./shapes {verb} {usage}",
+        description=what,
+        epilog=f"{OPERANDS}\n\nExample:\n  {example}",
+        formatter_class=argparse.RawDescriptionHelpFormatter,
+    )
+    made.add_argument("operands", nargs="*", help=argparse.SUPPRESS)
+    return made
+
+
+def parsed(made: argparse.ArgumentParser, arguments: list[str], fewest: int, most: int | None) -> argparse.Namespace:
+    """The arguments; argparse ends the program with status 2 and the usage where there are too few or too many."""
+    options = made.parse_intermixed_args(arguments)
+    count = len(options.operands)
+    if count < fewest or (most is not None and count > most):
+        due = f"{fewest}" if most == fewest else f"at least {fewest}"
+        made.error(f"{due} arguments are due, and here are {count}")
+    return options
+
+
+def one_standard_input(files: Sequence[str]) -> None:
+    if list(files).count("-") > 1:
+        raise Mistake("only one of the files can be -, since standard input can be read only once: give the others as files")
+
+
+def read_question(text: str, book: Book | None) -> tuple[Question | None, bytes]:
+    """No question where the bytes of the book are not well-formed: the engine refuses the book before it looks at the question."""
+    if book is None:
+        return None, b""
+    question = parse_question(text, book)
+    return question, encode_question(question)
+
+
+def read_asked(book_file: str, pool_file: str, question_text: str) -> Asked:
+    one_standard_input((book_file, pool_file))
+    book, book_bytes, _ = read_book(book_file)
+    question, question_bytes = read_question(question_text, book)
+    pool, pool_bytes, _ = read_pool(pool_file)
+    return Asked(book_bytes, pool_bytes, question_bytes, book, pool, question)
+
+
+def write_file(path: str, data: bytes) -> None:
+    try:
+        with open(path, "wb") as file:
+            file.write(data)
+    except (OSError, ValueError) as fault:
+        raise Mistake(f"cannot be written: {getattr(fault, 'strerror', None) or fault}", path) from None

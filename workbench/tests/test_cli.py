@@ -1,0 +1,264 @@
+"""The command as a user runs it, where a transcript cannot say it: closed pipes, Ctrl-C, rubbish, JSON. Whatever happens there is a status
+of 0, 1 or 2 and no traceback."""
+
+import json
+import os
+import pty
+import random
+import signal
+import subprocess
+import sys
+import tempfile
+import time
+import unittest
+from contextlib import redirect_stderr, redirect_stdout
+from io import BytesIO, StringIO, TextIOWrapper
+from pathlib import Path
+from unittest import mock
+
+from workbench import cli
+from workbench.library import ROOT
+from workbench.tests.engine_samples import TWO_WORDS
+from workbench.unfolding import words_to_bytes
+
+COMMAND = str(ROOT / "shapes")
+TREE = ("examples/tree.book", "examples/tree.pool", "tree(10)")
+
+
+def shapes(*arguments: str, given: bytes = b"", **more) -> subprocess.CompletedProcess:
+    return subprocess.run([COMMAND, *arguments], cwd=ROOT, input=given, capture_output=True, check=False, timeout=60, **more)
+
+
+class Outside(unittest.TestCase):
+    """In a process of its own."""
+
+    def test_from_another_directory(self):
+        files = [str(ROOT / "examples" / name) for name in ("segment.book", "circle.pool")]
+        with tempfile.TemporaryDirectory() as folder:
+            done = subprocess.run([COMMAND, "ask", *files, "segment(10, 10)"], cwd=folder, capture_output=True, check=False)
+        self.assertEqual((done.returncode, done.stdout.splitlines()[0], done.stderr), (0, b"fits", b""))
+
+    def test_closed_pipe_keeps_the_status_of_the_answer(self):
+        for question, status in (("tree(10)", 0), ("tree(20)", 1)):
+            read, write = os.pipe()
+            os.close(read)
+            with self.subTest(question=question), os.fdopen(write, "wb") as pipe:
+                done = subprocess.run(
+                    [COMMAND, "ask", *TREE[:2], question], cwd=ROOT, stdout=pipe, stderr=subprocess.PIPE, check=False, timeout=60
+                )
+                self.assertEqual((done.returncode, done.stderr), (status, b""))
+
+    def test_help_into_a_closed_pipe(self):
+        for arguments in ("--help", "ask --help"):
+            line = f"{COMMAND} {arguments} | head -1"
+            done = subprocess.run(["bash", "-c", line], cwd=ROOT, capture_output=True, check=False, timeout=60)
+            self.assertEqual((done.returncode, done.stderr), (0, b""))
+
+    def test_output_closed_or_full(self):
+        for redirection in (">&-", "> /dev/full"):
+            with self.subTest(redirection=redirection):
+                line = f"{COMMAND} ask {TREE[0]} {TREE[1]} '{TREE[2]}' {redirection}"
+                done = subprocess.run(["sh", "-c", line], cwd=ROOT, capture_output=True, check=False, timeout=60)
+                self.assertEqual(done.returncode, 2)
+                self.assertRegex(done.stderr, rb"^shapes: [^\n]*standard output[^\n]*\n$")
+
+    def test_input_and_error_closed(self):
+        for redirection, status in (("<&-", 2), ("2>&- < /dev/null", 2)):
+            with self.subTest(redirection=redirection):
+                line = f"{COMMAND} ask house - 'ring(1)' {redirection}"
+                done = subprocess.run(["sh", "-c", line], cwd=ROOT, capture_output=True, check=False, timeout=60)
+                self.assertEqual((done.returncode, done.stdout), (status, b""))
+                self.assertNotIn(b"Traceback", done.stderr)
+
+    def test_stopped(self):
+        child = subprocess.Popen(
+            [COMMAND, "ask", "house", "-", "ring(1)"], cwd=ROOT, stdin=subprocess.PIPE, stdout=subprocess.PIPE, stderr=subprocess.PIPE
+        )
+        time.sleep(2)  # so that it waits for standard input by then
+        child.send_signal(signal.SIGINT)
+        said = child.communicate(timeout=60)
+        self.assertEqual((child.returncode, *said), (2, b"", b"shapes: stopped\n"))
+
+    def test_stopped_inside_the_library(self):
+        code = (
+            "import os, signal, sys, threading, time; from workbench import cli, library\n"
+            "class Slow:\n"
+            "    def shapes_decide(self, *lent): threading.Timer(0.3, os.kill, (os.getpid(), signal.SIGINT)).start(); time.sleep(30)\n"
+            "library._loaded = Slow\n"
+            f"sys.exit(cli.main(['ask', *{TREE!r}]))\n"
+        )
+        started = time.monotonic()
+        done = subprocess.run([sys.executable, "-c", code], cwd=ROOT, capture_output=True, check=False, timeout=60)
+        self.assertEqual((done.returncode, done.stdout, done.stderr), (2, b"", b"shapes: stopped\n"))
+        self.assertLess(time.monotonic() - started, 15)
+
+    def test_bytes_by_way_of_standard_input(self):
+        done = shapes("encode", "snapshot", "-", given=b"10: 20\n20: 10\n")
+        self.assertEqual(done.stdout, bytes.fromhex("02 0A000000 01 14000000 14000000 01 0A000000"))
+
+    def test_base_sixteen_on_a_terminal(self):
+        ours, theirs = pty.openpty()
+        self.addCleanup(os.close, ours)
+        subprocess.run([COMMAND, "encode", "question", "house", "ring(1)"], cwd=ROOT, stdout=theirs, check=True, timeout=60)
+        os.close(theirs)
+        self.assertEqual(os.read(ours, 100), b"01 01 01 00 00 00\r\n")
+
+    def test_names_that_are_no_utf8(self):
+        done = shapes("ask", "house", b"\xff\xfe.pool", "ring(1)")
+        self.assertEqual((done.returncode, done.stdout), (2, b""))
+        self.assertNotIn(b"Traceback", done.stderr)
+
+
+class Inside(unittest.TestCase):
+    """In this process, which is faster."""
+
+    def setUp(self):
+        self.enterContext(mock.patch.object(os, "environ", os.environ | {"COLUMNS": "120"}))
+        before = os.getcwd()
+        os.chdir(ROOT)
+        self.addCleanup(os.chdir, before)
+        folder = tempfile.TemporaryDirectory()
+        self.addCleanup(folder.cleanup)
+        self.folder = Path(folder.name)
+
+    def run_verb(self, *arguments: str) -> tuple[int, bytes, str]:
+        out, said = TextIOWrapper(BytesIO()), StringIO()
+        with redirect_stdout(out), redirect_stderr(said):
+            try:
+                status = cli.main(arguments)
+            except SystemExit as end:
+                status = end.code
+        out.flush()
+        return status, out.buffer.getvalue(), said.getvalue()
+
+    def test_help(self):
+        for arguments in (["--help"], ["help"], *([verb, "--help"] for verb in cli.VERBS)):
+            with self.subTest(arguments=arguments):
+                status, out, said = self.run_verb(*arguments)
+                self.assertEqual((status, said), (0, ""))
+                self.assertIn(b"Example:\n  ./shapes ", out)
+                self.assertLessEqual(len(out.splitlines()), 22)
+
+    def test_options_anywhere(self):
+        for i in range(4):
+            arguments = ["house", "examples/ring.pool", "ring(0x10)"]
+            arguments.insert(i, "--json")
+            with self.subTest(place=i):
+                status, out, _ = self.run_verb("ask", *arguments)
+                self.assertEqual((status, json.loads(out)["results"][0]["answer"]), (0, "fits"))
+
+    def test_json_of_several_pools(self):
+        pools = ["examples/ring.pool", "examples/queue.pool", "examples/mistakes/same-address.pool"]
+        status, out, said = self.run_verb("ask", "house", *pools, "ring(0x10)", "--json")
+        self.assertEqual(status, 2)
+        results = json.loads(out)["results"]
+        self.assertEqual([result["pool"] for result in results], pools)
+        self.assertEqual([result["answer"] for result in results], ["fits", "does not fit", "not read"])
+        self.assertIn("is on line 1 already", said)
+
+    def test_statuses_of_ask(self):
+        fits, does_not, wrong = "examples/ring.pool", "examples/queue.pool", "examples/mistakes/same-address.pool"
+        for pools, due in (
+            ((fits,), 0),
+            ((fits, fits), 0),
+            ((does_not,), 1),
+            ((fits, does_not), 1),
+            ((wrong,), 2),
+            ((does_not, wrong, fits), 2),
+        ):
+            with self.subTest(pools=pools):
+                self.assertEqual(self.run_verb("ask", "house", *pools, "ring(0x10)")[0], due)
+
+    def test_refused_bytes(self):
+        book = self.folder / "cut"
+        book.write_bytes(bytes.fromhex("01 02 02 00"))
+        status, out, said = self.run_verb("ask", str(book), "examples/ring.pool", "whatever(1)")
+        self.assertEqual((status, said), (2, ""))
+        self.assertRegex(out, rb"^refusal 1: ")
+        for verb in (["check", "QUESTION", "examples/ring.pool"], ["draw", "QUESTION", "-o", str(self.folder / "a.dot")]):
+            status, out, _ = self.run_verb(verb[0], str(book), "examples/ring.pool", *verb[1:])
+            self.assertEqual((status, out[:10]), (2, b"refusal 1:"))
+        self.assertFalse((self.folder / "a.dot").exists())
+
+    def test_refused_pool_among_others(self):
+        pool = self.folder / "pool"
+        pool.write_bytes(bytes.fromhex("02 14000000 00 0A000000 00"))
+        status, out, _ = self.run_verb("ask", "house", "examples/ring.pool", str(pool), "ring(0x10)")
+        self.assertEqual(status, 2)
+        self.assertIn(b"refusal 7: ", out.splitlines()[1])
+        self.assertEqual(out.splitlines()[2], b"2 pools: 1 fits, 1 refused")
+
+    def test_saved_unfolding_damaged_in_every_byte(self):
+        saved = self.folder / "unfolding"
+        asked = ("house", "examples/ring.pool", "ring(0x10)")
+        self.assertEqual(self.run_verb("ask", *asked, "--save", str(saved))[0], 0)
+        whole = saved.read_bytes()
+        self.assertEqual(self.run_verb("check", *asked, str(saved))[:2], (0, b"taken\n"))
+        for i in range(len(whole)):
+            saved.write_bytes(whole[:i] + bytes([whole[i] ^ 0x55]) + whole[i + 1 :])
+            status, out, said = self.run_verb("check", *asked, str(saved))
+            with self.subTest(byte=i):
+                self.assertEqual((status, said), (1, ""))
+                self.assertRegex(out, rb"^not taken\n  .+\n$")
+        for cut in (0, 1, 8, 16, 24):
+            saved.write_bytes(whole[:cut])
+            self.assertEqual(self.run_verb("check", *asked, str(saved))[0], 1)
+
+    def test_the_longest_unfolding(self):
+        first, second, third = TWO_WORDS[:3], TWO_WORDS[3:6], TWO_WORDS[6:8]
+        asked = ("examples/segment.book", "examples/circle.pool", "segment(10, 10)")
+        for lines, due in ((65_535, (0, b"taken\n")), (65_536, (1, b"not taken\n  it has more than 65,535 lines\n"))):
+            words = first * (lines - 2) + second + third + (1 | (lines - 1) << 8,)
+            saved = self.folder / "unfolding"
+            saved.write_bytes(words_to_bytes(words))
+            with self.subTest(lines=lines):
+                self.assertEqual(self.run_verb("check", *asked, str(saved))[:2], due)
+        saved.write_bytes(bytes(2**22 + 1))
+        self.assertEqual(self.run_verb("check", *asked, str(saved))[0], 2)
+
+    def test_nowhere_to_write(self):
+        asked = ("house", "examples/ring.pool", "ring(0x10)")
+        for arguments in (("ask", *asked, "--save"), ("draw", *asked, "-o"), ("encode", "book", "house", "-o")):
+            for path in ("/no/such/folder/a.dot", str(self.folder), ""):
+                with self.subTest(verb=arguments[0], path=path):
+                    status, out, said = self.run_verb(*arguments, path)
+                    self.assertEqual((status, out), (2, b""))
+                    self.assertTrue(said)
+
+    def test_wrong_numbers_of_arguments(self):
+        for verb in cli.VERBS:
+            for arguments in ([], ["a"], ["book"], ["bench"] * 9, ["--no-such-option"]):
+                with self.subTest(verb=verb, arguments=arguments):
+                    status, out, said = self.run_verb(verb, *arguments)
+                    self.assertEqual((status, out), (2, b""))
+                    self.assertTrue(said)
+
+    def test_rubbish_for_every_file(self):
+        chance = random.Random(5)
+        rubbish = [b"", b"\0", b"\n", b"\xff" * 40, bytes(range(256)), "ä{".encode(), b"{" * 5000, b"p { " + b"(" * 5000, b"9" * 5000]
+        rubbish += [chance.randbytes(chance.randrange(1, 60)) for _ in range(40)]
+        rubbish += [bytes(chance.randrange(6) for _ in range(chance.randrange(1, 60))) for _ in range(60)]
+        path = self.folder / "rubbish"
+        pool, question, target = "examples/ring.pool", "ring(0x10)", str(self.folder / "a.dot")
+        for data in rubbish:
+            path.write_bytes(data)
+            file = str(path)
+            for arguments in (
+                ("ask", file, pool, question),
+                ("ask", "house", file, question),
+                ("ask", "house", file, pool, question, "--json"),
+                ("ask", "house", pool, data.decode("latin-1")),
+                ("check", "house", pool, question, file),
+                ("draw", "house", file, question, "-o", target),
+                ("encode", "bench", file, file, question),
+                ("decode", "book", file),
+                ("decode", "snapshot", file),
+                ("decode", "question", "house", file),
+                ("decode", "bench", file),
+            ):
+                with self.subTest(data=data, verb=arguments[:2]):
+                    self.assertIn(self.run_verb(*arguments)[0], (0, 1, 2))
+
+    def test_questions_that_look_like_options(self):
+        self.assertEqual(self.run_verb("ask", "house", "examples/ring.pool", "-ring(1)")[0], 2)
+        self.assertEqual(self.run_verb("ask", "--", "house", "examples/ring.pool", "ring(0x10)")[0], 0)
