@@ -1,0 +1,35 @@
+#!/usr/bin/env python3
+"""Asks the shared library whether two records that point to one another are a list segment from the first to itself, reads the unfolding
+and has it checked. target/libshapes.so is made by the first `./shapes ask`."""
+from ctypes import CDLL, byref, c_size_t, c_uint8, c_uint64
+from pathlib import Path
+
+BOOK = bytes.fromhex("01 02 02  00 00 01 00 00 01 00 00  00 01 00 01 00 01 02 01 00 02 01")  # the rules of examples/segment.book
+SNAPSHOT = bytes.fromhex("02  0A000000 01 14000000  14000000 01 0A000000")  # 10: 20 and 20: 10
+QUESTION = bytes.fromhex("00 02 0A000000 0A000000")  # segment(10, 10)
+KEPT = (0, 1, 2, 3, 10, 20)  # nil, three spares since the largest rule has three variables, and what snapshot and question name
+LINES = 1024
+
+
+def lent(*blocks: bytes) -> list:
+    return [part for block in blocks for part in ((c_uint8 * len(block))(*block), c_size_t(len(block)))]
+
+
+library = CDLL(str(Path(__file__).resolve().parent.parent / "target" / "libshapes.so"))
+library.shapes_decide.restype = library.shapes_check.restype = c_uint64
+
+table, space = (c_uint64 * LINES)(), (c_uint64 * (3 * LINES))()
+verdict, facts, rounds, lines, taken = (c_uint64() for _ in range(5))
+asked = lent(BOOK, SNAPSHOT, QUESTION)
+numbers = byref(verdict), byref(facts), byref(rounds), byref(lines)
+refusal = library.shapes_decide(*asked, table, c_size_t(LINES), space, c_size_t(3 * LINES), *numbers)
+print(f"refusal {refusal} verdict {verdict.value} facts {facts.value} rounds {rounds.value} lines {lines.value}")
+
+for line in range(lines.value):
+    fact, _, rule = space[3 * line : 3 * line + 3]
+    first, second = KEPT[fact >> 16 & 127], KEPT[fact >> 23 & 127]
+    print(f"line {line + 1}: segment({first}, {second}) of records {fact & 65535:02b}, by rule {rule & 255}, calls {rule >> 8 & 65535}")
+
+for words in (3 * lines.value, 3 * lines.value - 1):
+    refusal = library.shapes_check(*asked, space, c_size_t(words), byref(taken))
+    print(f"check of {words} words: refusal {refusal} taken {taken.value}")
