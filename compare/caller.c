@@ -1,5 +1,5 @@
-/* Calls the two entries from C: caller [--stack] FILE...
-   Each file is an input of the bench program; the answers of both entries are
+/* Calls the entries of both libraries from C: caller [--stack] FILE...
+   Each file is an input of the bench program; the answers of the entries are
    printed. With --stack, each call has a stack of its own, and at the end comes
    how much of it each entry used at most. (Not for a memory checker: it takes
    a look at a used stack for an error.) */
@@ -11,6 +11,7 @@
 #include <string.h>
 
 #include "desk.h"
+#include "shapes.h"
 
 enum { MOST_INPUT = 4096, MOST_UNFOLDING = 24576, STACK = 1 << 20, PAINT = 0xA5 };
 
@@ -21,13 +22,24 @@ struct block {
     size_t len;
 };
 
-enum entry { NOTHING, DECIDE, CHECK };
+enum entry { NOTHING, DESK_DECIDE, DESK_CHECK, SHAPES_DECIDE, SHAPES_CHECK, ENTRIES };
 
+static const char *const entry_names[] = {"", "desk_decide", "desk_check", "shapes_decide", "shapes_check"};
+
+enum { VERDICT, FACTS, ROUNDS, LINES, NUMBERS };
+
+/* The unfolding is bytes for the desk, and words for the other check. Each
+   number that a call writes is a block too. */
 struct call {
     enum entry entry;
-    struct block sections[3], unfolding;
+    struct block sections[3], unfolding, table, space;
+    uint64_t *numbers[NUMBERS];
     uint64_t answer;
 };
+
+/* On which stack, and what each entry used of it at most. */
+static int measured;
+static size_t thread_itself, most[ENTRIES];
 
 static void *must(void *memory)
 {
@@ -38,10 +50,17 @@ static void *must(void *memory)
     return memory;
 }
 
-static struct block block_of(const uint8_t *bytes, size_t len)
+static struct block block_of(const void *bytes, size_t len)
 {
     struct block block = {must(malloc(len ? len : 1)), len};
     memcpy(block.bytes, bytes, len);
+    return block;
+}
+
+static struct block painted(size_t len)
+{
+    struct block block = {must(malloc(len)), len};
+    memset(block.bytes, PAINT, len);
     return block;
 }
 
@@ -64,12 +83,20 @@ static void split(const uint8_t *input, size_t len, struct block sections[3])
 static void *run(void *data)
 {
     struct call *call = data;
-    const struct block *p = call->sections, *u = &call->unfolding;
-    if (call->entry == DECIDE)
+    const struct block *p = call->sections, *u = &call->unfolding, *t = &call->table, *s = &call->space;
+    uint64_t **n = call->numbers;
+    if (call->entry == DESK_DECIDE)
         call->answer = desk_decide(p[0].bytes, p[0].len, p[1].bytes, p[1].len, p[2].bytes, p[2].len);
-    if (call->entry == CHECK)
+    if (call->entry == DESK_CHECK)
         call->answer = desk_check(p[0].bytes, p[0].len, p[1].bytes, p[1].len, p[2].bytes, p[2].len,
                                   u->bytes, u->len);
+    if (call->entry == SHAPES_DECIDE)
+        call->answer = shapes_decide(p[0].bytes, p[0].len, p[1].bytes, p[1].len, p[2].bytes, p[2].len,
+                                     (uint64_t *)t->bytes, t->len / 8, (uint64_t *)s->bytes, s->len / 8,
+                                     n[VERDICT], n[FACTS], n[ROUNDS], n[LINES]);
+    if (call->entry == SHAPES_CHECK)
+        call->answer = shapes_check(p[0].bytes, p[0].len, p[1].bytes, p[1].len, p[2].bytes, p[2].len,
+                                    (const uint64_t *)u->bytes, u->len / 8, n[VERDICT]);
     return NULL;
 }
 
@@ -94,13 +121,62 @@ static size_t stack_of(struct call *call)
     return STACK - untouched;
 }
 
+static void make(struct call *call, enum entry entry)
+{
+    call->entry = entry;
+    if (!measured) {
+        run(call);
+        return;
+    }
+    size_t used = stack_of(call) - thread_itself;
+    if (used > most[entry])
+        most[entry] = used;
+}
+
+static void desk(struct call *call)
+{
+    static uint8_t zeros[MOST_UNFOLDING + 24];
+    static const size_t lengths[] = {0, 24, MOST_UNFOLDING, MOST_UNFOLDING + 24};
+    make(call, DESK_DECIDE);
+    printf(" %llu,", (unsigned long long)call->answer);
+    for (int i = 0; i < 4; i++) {
+        call->unfolding = block_of(zeros, lengths[i]);
+        make(call, DESK_CHECK);
+        printf(" %llu", (unsigned long long)call->answer);
+        free(call->unfolding.bytes);
+    }
+}
+
+/* The engine with a table of so many lines; then the check with the unfolding
+   that it wrote, and with the whole space. */
+static void shapes(struct call *call, size_t lines)
+{
+    call->table = painted(8 * lines);
+    call->space = painted(24 * lines);
+    make(call, SHAPES_DECIDE);
+    printf("; %llu", (unsigned long long)call->answer);
+    for (int i = 0; i < NUMBERS; i++)
+        printf(" %llu", (unsigned long long)*call->numbers[i]);
+    size_t lengths[] = {24 * (size_t)*call->numbers[LINES], call->space.len};
+    for (int i = 0; i < 2; i++) {
+        call->unfolding = block_of(call->space.bytes, lengths[i]);
+        make(call, SHAPES_CHECK);
+        printf(", %llu %llu", (unsigned long long)call->answer, (unsigned long long)*call->numbers[VERDICT]);
+        free(call->unfolding.bytes);
+    }
+    free(call->table.bytes);
+    free(call->space.bytes);
+}
+
 int main(int count, char **names)
 {
-    static uint8_t input[MOST_INPUT], zeros[MOST_UNFOLDING + 24];
-    static const size_t lengths[] = {0, 0, 24, MOST_UNFOLDING, MOST_UNFOLDING + 24};
-    int measured = count > 1 && !strcmp(names[1], "--stack");
-    struct call call = {NOTHING, {{NULL, 0}, {NULL, 0}, {NULL, 0}}, {NULL, 0}, 0};
-    size_t most[3] = {0, 0, 0}, thread_itself = measured ? stack_of(&call) : 0;
+    static uint8_t input[MOST_INPUT];
+    struct call call;
+    memset(&call, 0, sizeof call);
+    measured = count > 1 && !strcmp(names[1], "--stack");
+    thread_itself = measured ? stack_of(&call) : 0;
+    for (int i = 0; i < NUMBERS; i++)
+        call.numbers[i] = (uint64_t *)painted(8).bytes;
     for (int i = 1 + measured; i < count; i++) {
         FILE *file = fopen(names[i], "rb");
         if (!file) {
@@ -110,24 +186,16 @@ int main(int count, char **names)
         split(input, fread(input, 1, sizeof input, file), call.sections);
         fclose(file);
         printf("%s:", names[i]);
-        for (int turn = 0; turn < 5; turn++) {
-            call.entry = turn == 0 ? DECIDE : CHECK;
-            call.unfolding = block_of(zeros, lengths[turn]);
-            if (measured) {
-                size_t used = stack_of(&call) - thread_itself;
-                if (used > most[call.entry])
-                    most[call.entry] = used;
-            } else {
-                run(&call);
-            }
-            printf(" %llu", (unsigned long long)call.answer);
-            free(call.unfolding.bytes);
-        }
+        desk(&call);
+        shapes(&call, 1024);
+        shapes(&call, 65535);
         putchar('\n');
         for (int i = 0; i < 3; i++)
             free(call.sections[i].bytes);
     }
-    if (measured)
-        printf("stack: desk_decide %zu bytes, desk_check %zu bytes\n", most[DECIDE], most[CHECK]);
+    for (int i = 0; i < NUMBERS; i++)
+        free(call.numbers[i]);
+    for (int entry = DESK_DECIDE; measured && entry < ENTRIES; entry++)
+        printf("stack: %s %zu bytes\n", entry_names[entry], most[entry]);
     return 0;
 }
