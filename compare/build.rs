@@ -1,19 +1,20 @@
-//! Where the static library of the proved program stands.
+//! Where the static libraries of the proved program stand.
 
 use std::env;
 use std::path::PathBuf;
 
 fn main() {
     let here = PathBuf::from(env::var("CARGO_MANIFEST_DIR").expect("cargo sets it"));
-    let folder = match env::var("DESK_LIB") {
+    let folder = match env::var("PROVED_LIB") {
         Ok(folder) => PathBuf::from(folder),
         Err(_) => here.join("../target/staticlib"),
     };
+    println!("cargo::rerun-if-env-changed=PROVED_LIB");
     println!("cargo::rustc-link-search=native={}", folder.display());
-    println!("cargo::rustc-link-lib=static=desk");
-    println!("cargo::rerun-if-env-changed=DESK_LIB");
-    println!(
-        "cargo::rerun-if-changed={}",
-        folder.join("libdesk.a").display()
-    );
+    // Each is one object in which nothing but its entries has a global name.
+    for library in ["desk", "shapes"] {
+        println!("cargo::rustc-link-lib=static={library}");
+        let file = folder.join(format!("lib{library}.a"));
+        println!("cargo::rerun-if-changed={}", file.display());
+    }
 }

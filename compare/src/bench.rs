@@ -2,6 +2,7 @@
 
 use crate::books;
 use crate::compare::{number, number_line};
+use crate::costly;
 use crate::desk;
 use crate::hostile::{self, Hostile};
 use crate::input::Input;
@@ -44,7 +45,7 @@ pub fn pools() -> Vec<(String, Input)> {
     for size in [4, 6, 8, 10, 12, 15] {
         add(format!("always-true-{size}"), shapes::anything(dice, size));
     }
-    for (name, input) in hostile::made() {
+    for (name, input) in costly::made() {
         if ["unequal-only", "unmet-at-the-end", "three-calls"].contains(&name) {
             pools.push((name.into(), input));
         }
@@ -129,9 +130,8 @@ fn row(name: &str, input: &Input) {
     );
 }
 
-/// The fastest run of each in the longest table. The proved program has no
-/// entry with so many lines, so `longest` runs as a process, and what it takes
-/// to refuse an empty input is taken off.
+/// The fastest run of each in the longest table. `longest` runs as a process,
+/// and what it takes to refuse an empty input is taken off.
 fn long_row(name: &str, input: &Input) -> io::Result<()> {
     let program = Path::new(env!("CARGO_MANIFEST_DIR")).join("../target/bin/longest");
     let bytes = input.bench_bytes();

@@ -1,9 +1,16 @@
 //! Hands each input to the reference and to the proved program, and counts.
 
 use crate::desk;
+use crate::differences::{call, Call};
 use crate::input::{hex, Input};
+use crate::judge::{self, Table};
+use crate::lent::{self, Manner, Sizes};
 use crate::patience;
-use reference::api::{self, Outcome, Reply};
+use crate::random::Dice;
+use crate::sizes;
+use crate::tally::Tally;
+use crate::unfoldings::{lines_of, words_of, Line};
+use reference::api::{self, Outcome, Reply, DESK_BYTES};
 use std::path::PathBuf;
 use std::time::{Duration, Instant};
 
@@ -11,6 +18,9 @@ use std::time::{Duration, Instant};
 const MOST_DIFFERENCES: u64 = 5;
 
 const PROGRESS_EVERY: Duration = Duration::from_secs(10);
+
+/// One of so many inputs is asked with lent memory of other sizes as well.
+const SIZES_SHARE: u64 = 4;
 
 /// When to stop, for a run that has no end of its own.
 #[derive(Clone, Copy)]
@@ -22,8 +32,12 @@ pub enum Limit {
 pub struct Comparer {
     program: Option<PathBuf>,
     /// One of so many of the engine's inputs also goes to the bench program: a
-    /// process costs far more than a call, but its line says more.
+    /// process costs far more than a call.
     pub program_share: u64,
+    /// Words around what is lent.
+    around: usize,
+    /// For the sizes of what is lent, and for what is in it.
+    pub dice: Dice,
     /// One of so many turns is taken.
     thin: u64,
     turns: u64,
@@ -36,51 +50,22 @@ pub struct Comparer {
     progress: Option<Instant>,
 }
 
-/// What the inputs were, for a reader who wants to know what was tried.
+/// What came of an input: the reference's reply, unless that needs too long,
+/// and where the pool fits the reference's unfolding, and the engine's if it
+/// is another.
 #[derive(Default)]
-pub struct Tally {
-    /// Replies of the engine: twice the refusal plus the verdict.
-    engine: [u64; 24],
-    taken: u64,
-    not_taken: u64,
-    check_refused: u64,
-    program: u64,
-    /// Inputs for which the reference needs too long.
-    passed_over: u64,
-    proved: Slowest,
-    reference: Slowest,
-}
-
-/// The longest answer, and to what.
-#[derive(Default)]
-struct Slowest {
-    time: Duration,
-    input: Input,
-}
-
-impl Slowest {
-    fn saw(&mut self, time: Duration, input: &Input) {
-        if time > self.time {
-            self.time = time;
-            self.input = input.clone();
-        }
-    }
-
-    /// An answer that took over a second is worth a look at its input.
-    fn print(&self, name: &str) {
-        println!("slowest, {name}: {:.1} ms", self.time.as_secs_f64() * 1e3);
-        if self.time.as_secs() >= 1 {
-            let [book, snapshot, question] = self.input.sections().map(|section| hex(section));
-            println!("  --input {book} {snapshot} {question}");
-        }
-    }
+pub struct Decided {
+    pub reply: Option<Reply>,
+    pub unfoldings: Vec<Vec<Line>>,
 }
 
 impl Comparer {
-    pub fn new(program: Option<PathBuf>, thin: u64) -> Comparer {
+    pub fn new(program: Option<PathBuf>, thin: u64, around: usize) -> Comparer {
         Comparer {
             program,
             program_share: u64::MAX,
+            around,
+            dice: Dice::new(0, 0),
             thin,
             turns: 0,
             decided: 0,
@@ -110,79 +95,170 @@ impl Comparer {
         self.turns.is_multiple_of(self.thin)
     }
 
-    /// The engine's entry. Gives the reference's outcome, unless that needs too
-    /// long.
-    pub fn decide(&mut self, input: &Input) -> Option<Outcome> {
-        let input = exact(input);
-        let before = Instant::now();
-        let Some(outcome) = patience::outcome(&input) else {
-            self.tally.passed_over += 1;
-            return None;
+    /// The engine: the desk's entry, and the one on lent memory.
+    pub fn decide(&mut self, input: &Input) -> Decided {
+        let Some(outcome) = self.reference(input, Sizes::OWN) else {
+            return Decided::default();
         };
-        let between = Instant::now();
-        let answer = desk::decide(&input.book, &input.snapshot, &input.question);
-        self.tally.proved.saw(between.elapsed(), &input);
-        self.tally.reference.saw(between - before, &input);
         let reply = outcome.reply;
-        self.answered(&input, number(reply), answer);
+        self.desk_decide(input, reply);
+        let lines = self.lend(input, Sizes::OWN, reply, Table::of(&outcome));
+        self.counted();
         self.decided += 1;
+        if self.decided.is_multiple_of(SIZES_SHARE) {
+            let sizes = sizes::drawn(&mut self.dice, reply.facts);
+            self.decide_lent(input, sizes);
+        }
         if self.decided.is_multiple_of(self.program_share) && !input.book.is_empty() {
             self.program_replies(&[&input.bench_bytes()], reply);
         }
-        Some(outcome)
+        let mut unfoldings = vec![lines_of(&outcome), lines];
+        unfoldings.dedup();
+        unfoldings.retain(|lines| !lines.is_empty());
+        Decided {
+            reply: Some(reply),
+            unfoldings,
+        }
     }
 
-    fn answered(&mut self, input: &Input, expected: u64, answer: u64) {
+    /// The engine on an input whose reply is known from how it was made, so
+    /// that the reference is tried as well.
+    pub fn decide_known(&mut self, input: &Input, fits: bool) -> Decided {
+        let decided = self.decide(input);
+        if let Some(reply) = decided.reply {
+            if reply.refusal != 11 && (reply.refusal, reply.verdict) != (0, fits as u32) {
+                let what = "the reference and how the input was made";
+                self.other_number(call(what, input), number(reply), fits as u64);
+            }
+        }
+        decided
+    }
+
+    /// The engine on lent memory of these sizes. Gives the reference's reply,
+    /// unless that needs too long.
+    pub fn decide_lent(&mut self, input: &Input, sizes: Sizes) -> Option<Reply> {
+        let outcome = self.reference(input, sizes)?;
+        self.lend(input, sizes, outcome.reply, Table::of(&outcome));
+        self.tally.lent.other_sizes += 1;
+        self.counted();
+        Some(outcome.reply)
+    }
+
+    fn reference(&mut self, input: &Input, sizes: Sizes) -> Option<Outcome> {
+        let before = Instant::now();
+        let outcome = patience::outcome(input, sizes);
+        match outcome {
+            Some(_) => self.tally.reference.saw(before.elapsed(), input),
+            None => self.tally.passed_over += 1,
+        }
+        outcome
+    }
+
+    fn desk_decide(&mut self, input: &Input, reply: Reply) {
+        let lent = exact(input);
+        let before = Instant::now();
+        let answer = desk::decide(&lent.book, &lent.snapshot, &lent.question);
+        self.tally.proved.saw(before.elapsed(), input);
+        let expected = number(reply);
         self.tally.engine[expected as usize] += 1;
         if answer != expected {
-            self.difference("desk_decide", input, None, expected, answer);
+            self.other_number(call("desk_decide", input), expected, answer);
         }
-        self.counted();
+        self.unchanged(input, &lent);
     }
 
-    /// The engine's entry on an input whose reply is known from how it was
-    /// made, so that the reference is tried as well.
-    pub fn decide_known(&mut self, input: &Input, fits: bool) -> Option<Outcome> {
-        let outcome = self.decide(input)?;
-        let reply = outcome.reply;
-        if reply.refusal != 11 && (reply.refusal, reply.verdict) != (0, fits as u32) {
-            let what = "the reference and how the input was made";
-            self.difference(what, input, None, number(reply), fits as u64);
-        }
-        Some(outcome)
+    /// Lends memory of these sizes, and looks at all of it after the call.
+    /// Gives the engine's unfolding.
+    fn lend(&mut self, input: &Input, sizes: Sizes, reply: Reply, table: Table) -> Vec<Line> {
+        let lent = exact(input);
+        let manner = self.manner();
+        let before = Instant::now();
+        let answer = lent::decide(&lent, sizes, manner);
+        self.tally.proved.saw(before.elapsed(), input);
+        self.tally.lent.calls += 1;
+        let lines = match judge::decided(input, reply, table, &answer) {
+            Ok(lines) => {
+                self.tally.lent.saw(reply);
+                lines
+            }
+            Err(wrong) => {
+                let lent = Some((sizes, manner.dirt));
+                let call = call("shapes_decide", input);
+                self.wrong(Call { lent, ..call }, &wrong);
+                Vec::new()
+            }
+        };
+        self.unchanged(input, &lent);
+        lines
     }
 
-    /// The check's entry.
+    /// Dirt of any kind.
+    fn manner(&mut self) -> Manner {
+        Manner {
+            around: self.around,
+            dirt: self.dice.word(),
+        }
+    }
+
+    fn unchanged(&mut self, input: &Input, lent: &Input) {
+        if input != lent {
+            self.wrong(call("a call", input), "book, snapshot or question changed");
+        }
+    }
+
+    /// The check: the desk's entry, and the one that gets words.
     pub fn check(&mut self, input: &Input, unfolding: &[u8]) {
-        let Input {
-            book,
-            snapshot,
-            question,
-        } = &exact(input);
-        let unfolding = &unfolding.to_vec()[..];
-        let expected = api::desk_check(book, snapshot, question, unfolding) as u64;
-        let answer = desk::check(book, snapshot, question, unfolding);
+        let lent = exact(input);
+        let [book, snapshot, question] = lent.sections();
+        let bytes = &unfolding.to_vec()[..];
+        let expected = api::desk_check(book, snapshot, question, bytes) as u64;
+        let answer = desk::check(book, snapshot, question, bytes);
         match expected {
             0 => self.tally.not_taken += 1,
             1 => self.tally.taken += 1,
             _ => self.tally.check_refused += 1,
         }
         if answer != expected {
-            self.difference("desk_check", input, Some(unfolding), expected, answer);
+            let unfolding = Some(unfolding);
+            let call = call("desk_check", input);
+            self.other_number(Call { unfolding, ..call }, expected, answer);
         }
+        self.check_words(&lent, unfolding, expected);
+        self.unchanged(input, &lent);
         self.counted();
     }
 
-    /// An input whose reply was kept, since the reference may need long for it.
-    /// The bench program's line says the most; without it the entry must do.
-    pub fn kept(&mut self, input: &Input, reply: Reply) {
-        if self.program.is_some() {
-            return self.program_replies(&[&input.bench_bytes()], reply);
+    /// As the desk's entry, but with no limit of its own. A rest that is no
+    /// word is left out.
+    fn check_words(&mut self, input: &Input, unfolding: &[u8], of_desk: u64) {
+        let words = words_of(unfolding);
+        let expected = if unfolding.len() <= DESK_BYTES && unfolding.len().is_multiple_of(8) {
+            ((of_desk / 2) as u32, (of_desk % 2) as u32)
+        } else {
+            let [book, snapshot, question] = input.sections();
+            api::check(book, snapshot, question, &words)
+        };
+        let manner = self.manner();
+        let checked = lent::check(input, &words, manner);
+        self.tally.lent.checks += 1;
+        self.tally.lent.taken += expected.1 as u64;
+        if let Err(wrong) = judge::checked(expected, &words, &checked) {
+            let call = Call {
+                unfolding: Some(unfolding),
+                lent: Some((Sizes::OWN, manner.dirt)),
+                ..call("shapes_check", input)
+            };
+            self.wrong(call, &wrong);
         }
-        let before = Instant::now();
-        let answer = desk::decide(&input.book, &input.snapshot, &input.question);
-        self.tally.proved.saw(before.elapsed(), input);
-        self.answered(input, number(reply), answer);
+    }
+
+    /// An input whose reply was kept, since the reference may need long for it,
+    /// with the fingerprint of the table.
+    pub fn kept(&mut self, input: &Input, reply: Reply, print: u64) {
+        self.desk_decide(input, reply);
+        self.lend(input, Sizes::OWN, reply, Table::Kept(print));
+        self.counted();
+        self.program_replies(&[&input.bench_bytes()], reply);
     }
 
     /// The bench program, by what it prints.
@@ -230,23 +306,16 @@ impl Comparer {
         }
     }
 
-    fn difference(
-        &mut self,
-        what: &str,
-        input: &Input,
-        unfolding: Option<&[u8]>,
-        expected: u64,
-        answer: u64,
-    ) {
-        println!("difference: {what}");
-        println!("  book      {}", hex(&input.book));
-        println!("  snapshot  {}", hex(&input.snapshot));
-        println!("  question  {}", hex(&input.question));
-        if let Some(unfolding) = unfolding {
-            println!("  unfolding {}", hex(unfolding));
-        }
+    fn other_number(&mut self, call: Call, expected: u64, answer: u64) {
+        call.print();
         println!("  reference {}", number_line(expected));
         println!("  proved    {}", number_line(answer));
+        self.one_more_difference();
+    }
+
+    fn wrong(&mut self, call: Call, wrong: &str) {
+        call.print();
+        println!("  wrong     {wrong}");
         self.one_more_difference();
     }
 
@@ -266,26 +335,6 @@ impl Comparer {
     }
 }
 
-impl Tally {
-    pub fn fits(&self) -> u64 {
-        self.engine[1]
-    }
-
-    pub fn print(&self) {
-        print!("engine: {} fit, {} do not", self.fits(), self.engine[0]);
-        for refusal in 1..=11 {
-            print!(", {} refusal {refusal}", self.engine[2 * refusal]);
-        }
-        println!();
-        println!(
-            "check: {} taken, {} not taken, {} refused; bench program: {}; passed over: {}",
-            self.taken, self.not_taken, self.check_refused, self.program, self.passed_over
-        );
-        self.proved.print("proved");
-        self.reference.print("reference");
-    }
-}
-
 /// The same input in blocks of just its size, so that a memory checker sees a
 /// read past the end.
 fn exact(input: &Input) -> Input {
@@ -302,17 +351,11 @@ pub fn number_line(number: u64) -> String {
     format!("{number} (refusal {} and {})", number / 2, number % 2)
 }
 
-/// Whether the line is a right one where the reference gives this reply. How
-/// many lines the unfolding has is the program's choice, but on a fit there is
-/// at least one, and no fact stands in it twice.
-pub fn line_agrees(reply: Reply, text: &str) -> bool {
+/// Whether the line is a right one where the reference gives this reply.
+fn line_agrees(reply: Reply, text: &str) -> bool {
     let last = text.trim_end_matches('\n').rsplit(' ').next();
     let Some(lines) = last.and_then(|word| word.parse().ok()) else {
         return false;
     };
-    let right = match reply.verdict {
-        1 => (1..=reply.facts).contains(&lines),
-        _ => lines == 0,
-    };
-    right && text == api::bench_line(Reply { lines, ..reply })
+    judge::lines_agree(reply, lines) && text == api::bench_line(Reply { lines, ..reply })
 }

@@ -18,7 +18,7 @@ const LONGEST: usize = 4_200;
 /// Every byte of the three sections replaced, every section cut short and drawn out;
 /// each to both entries.
 pub fn every_byte(comparer: &mut Comparer, dice: &mut Dice, input: &Input) {
-    let lines = comparer.decide(input).and_then(unfoldings::lines_of);
+    let lines = comparer.decide(input).unfoldings.pop();
     let unfolding = unfoldings::bytes(&lines.unwrap_or_default());
     let mut both = |input: &Input| {
         if comparer.takes_turn() {
@@ -56,6 +56,43 @@ pub fn every_byte(comparer: &mut Comparer, dice: &mut Dice, input: &Input) {
             both(&longer);
         }
     }
+}
+
+/// The input with a fault for each of the refusals 1 to 9, where it has such
+/// bytes at all.
+pub fn one_of_each_fault(input: &Input) -> Vec<Input> {
+    let head = 2 + input.book[0] as usize;
+    let alter: [&dyn Fn(&mut Input); 9] = [
+        &|input| input.book.truncate(input.book.len() - 1),
+        &|input| input.book[0] = 9,
+        &|input| {
+            input
+                .book
+                .iter_mut()
+                .skip(head)
+                .take(1)
+                .for_each(|byte| *byte = 200)
+        },
+        &|input| input.book.push(0),
+        &|input| input.snapshot.truncate(input.snapshot.len() - 1),
+        &|input| input.snapshot[0] = 17,
+        &|input| {
+            input
+                .snapshot
+                .iter_mut()
+                .skip(1)
+                .take(4)
+                .for_each(|byte| *byte = 0)
+        },
+        &|input| input.snapshot.push(0),
+        &|input| input.question.clear(),
+    ];
+    let with = |alter: &dyn Fn(&mut Input)| {
+        let mut faulty = input.clone();
+        alter(&mut faulty);
+        faulty
+    };
+    alter.into_iter().map(with).collect()
 }
 
 /// A few damages at random places, for inputs that are too long for all.

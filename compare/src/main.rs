@@ -1,35 +1,43 @@
 //! Compares the proved program with the reference on many inputs.
 
+mod again;
 mod bench;
 mod books;
 mod compare;
+mod costly;
 mod damage;
 mod desk;
+mod differences;
 mod generate;
 mod grow;
 mod hostile;
 mod input;
+mod judge;
+mod lent;
 mod mutate;
 mod patience;
 mod pools;
 mod random;
+mod selftest;
 mod shapes;
+mod sizes;
 mod small;
+mod tally;
 mod unfoldings;
 
-use compare::{number_line, Comparer, Limit};
-use input::{from_hex, Input};
-use reference::api;
+use compare::{Comparer, Limit};
 use std::path::{Path, PathBuf};
 use std::process::ExitCode;
 use std::time::{Duration, SystemTime, UNIX_EPOCH};
 
 const USAGE: &str = "usage: compare [--seed N] [--long [COUNT | SECONDSs]] [--thin N]
-               [--pool NAME] [--program PATH | --no-program]
+               [--pool NAME] [--program PATH | --no-program] [--exact]
        compare --bench [POOL...]
        compare --names
        compare --once POOL proved|reference
-       compare --input BOOK SNAPSHOT QUESTION [UNFOLDING]   (in hex, - for none)
+       compare --input [--lent LINES WORDS] [--dirt N]
+               BOOK SNAPSHOT QUESTION [UNFOLDING]   (in hex, - for none)
+       compare --self-test
        compare --write-hostile";
 
 /// The gate's seed: any number will do, as long as it stays.
@@ -44,6 +52,8 @@ struct Options {
     /// How the names of the pools to be run begin.
     pool: String,
     program: Option<PathBuf>,
+    /// Words around the lent memory.
+    around: usize,
 }
 
 fn main() -> ExitCode {
@@ -60,9 +70,10 @@ fn main() -> ExitCode {
         Some((&"--once", [name, which @ ("proved" | "reference")])) => {
             bench::once(name, *which == "proved").is_some()
         }
-        Some((&"--input", sections)) => one_input(sections).is_some(),
+        Some((&"--input", words)) => again::run(words).is_some(),
+        Some((&"--self-test", [])) => return ExitCode::from(!selftest::run() as u8),
         Some((&"--write-hostile", [])) => hostile::write().is_ok(),
-        Some((&patience::OPTION, [])) => patience::attempt().is_ok(),
+        Some((&patience::OPTION, [lines])) => patience::attempt(lines).is_some(),
         _ => match options(&words) {
             Some(options) => return compare_all(options),
             None => false,
@@ -83,6 +94,7 @@ fn options(words: &[&str]) -> Option<Options> {
         thin: 1,
         pool: String::new(),
         program: Some(Path::new(env!("CARGO_MANIFEST_DIR")).join("../target/bin/bench")),
+        around: lent::AROUND,
     };
     let mut words = words.iter().peekable();
     while let Some(&word) = words.next() {
@@ -97,6 +109,7 @@ fn options(words: &[&str]) -> Option<Options> {
             "--pool" => options.pool = words.next()?.to_string(),
             "--program" => options.program = Some(PathBuf::from(words.next()?)),
             "--no-program" => options.program = None,
+            "--exact" => options.around = 0,
             _ => return None,
         }
     }
@@ -112,7 +125,7 @@ fn limit(word: &str) -> Option<Limit> {
 }
 
 fn compare_all(options: Options) -> ExitCode {
-    let mut comparer = Comparer::new(options.program, options.thin);
+    let mut comparer = Comparer::new(options.program, options.thin, options.around);
     match options.long {
         None => {
             let seed = options.seed.unwrap_or(FIXED_SEED);
@@ -133,36 +146,4 @@ fn compare_all(options: Options) -> ExitCode {
 fn seed_of_the_hour() -> u64 {
     let now = SystemTime::now().duration_since(UNIX_EPOCH);
     now.map_or(FIXED_SEED, |time| time.as_secs())
-}
-
-/// What both programs say to one input, as a difference prints it.
-fn one_input(words: &[&str]) -> Option<()> {
-    let sections: Option<Vec<Vec<u8>>> = words
-        .iter()
-        .map(|&word| from_hex(if word == "-" { "" } else { word }))
-        .collect();
-    let mut sections = sections?.into_iter();
-    let input = Input {
-        book: sections.next()?,
-        snapshot: sections.next()?,
-        question: sections.next()?,
-    };
-    let Input {
-        book,
-        snapshot,
-        question,
-    } = &input;
-    let (reference, proved) = match sections.next() {
-        None => (
-            api::desk_engine(book, snapshot, question) as u64,
-            desk::decide(book, snapshot, question),
-        ),
-        Some(unfolding) => (
-            api::desk_check(book, snapshot, question, &unfolding) as u64,
-            desk::check(book, snapshot, question, &unfolding),
-        ),
-    };
-    println!("reference {}", number_line(reference));
-    println!("proved    {}", number_line(proved));
-    Some(())
 }

@@ -3,7 +3,8 @@
 //! such inputs are first tried in a process of their own, which can be stopped.
 
 use crate::input::Input;
-use reference::api::{self, Outcome, OWN_LINES};
+use crate::lent::Sizes;
+use reference::api::{self, Outcome};
 use reference::domain::Domain;
 use reference::{fixpoint, formats};
 use std::io::{self, Read, Write};
@@ -11,8 +12,8 @@ use std::process::{Command, Stdio};
 use std::thread::sleep;
 use std::time::{Duration, Instant};
 
-/// With no more facts than this, three calls are no matter.
-const HARMLESS_FACTS: usize = 128;
+/// With no more facts than this, rules with so many calls are no matter.
+const HARMLESS_FACTS: [usize; 4] = [usize::MAX, usize::MAX, 2_048, 128];
 
 const LONGEST: Duration = Duration::from_secs(2);
 
@@ -20,30 +21,33 @@ const LONGEST: Duration = Duration::from_secs(2);
 pub const OPTION: &str = "--try";
 
 /// The reference's outcome, or nothing if it needs too long.
-pub fn outcome(input: &Input) -> Option<Outcome> {
-    if doubtful(input) && !ends_in_time(input).expect("this program can be run again") {
+pub fn outcome(input: &Input, sizes: Sizes) -> Option<Outcome> {
+    let ends = || ends_in_time(input, sizes).expect("this program can be run again");
+    if doubtful(input, sizes) && !ends() {
         return None;
     }
-    Some(decide(input))
+    Some(decide(input, sizes))
 }
 
-fn decide(input: &Input) -> Outcome {
+fn decide(input: &Input, sizes: Sizes) -> Outcome {
     let [book, snapshot, question] = input.sections();
-    api::decide(book, snapshot, question, OWN_LINES, 3 * OWN_LINES)
+    api::decide(book, snapshot, question, sizes.lines, sizes.words)
 }
 
-fn doubtful(input: &Input) -> bool {
+fn doubtful(input: &Input, sizes: Sizes) -> bool {
     let Ok(problem) = formats::read(&input.book, &input.snapshot, &input.question) else {
         return false;
     };
-    let mut rules = problem.rules.rules.iter();
-    rules.any(|rule| rule.calls.len() == 3)
-        && fixpoint::facts(&problem, &Domain::of(&problem), HARMLESS_FACTS).is_none()
+    let calls = problem.rules.rules.iter().map(|rule| rule.calls.len());
+    let harmless = HARMLESS_FACTS[calls.max().unwrap_or(0)];
+    sizes == Sizes::of(sizes.lines)
+        && sizes.lines > harmless
+        && fixpoint::facts(&problem, &Domain::of(&problem), harmless).is_none()
 }
 
-fn ends_in_time(input: &Input) -> io::Result<bool> {
+fn ends_in_time(input: &Input, sizes: Sizes) -> io::Result<bool> {
     let mut child = Command::new(std::env::current_exe()?)
-        .arg(OPTION)
+        .args([OPTION, &sizes.lines.to_string()])
         .stdin(Stdio::piped())
         .spawn()?;
     let mut pipe = child.stdin.take().expect("it was asked for");
@@ -61,10 +65,10 @@ fn ends_in_time(input: &Input) -> io::Result<bool> {
     Ok(true)
 }
 
-/// The process.
-pub fn attempt() -> io::Result<()> {
+/// The process, for a table of so many lines.
+pub fn attempt(lines: &str) -> Option<()> {
     let mut bytes = Vec::new();
-    io::stdin().read_to_end(&mut bytes)?;
-    decide(&Input::from_bench(&bytes));
-    Ok(())
+    io::stdin().read_to_end(&mut bytes).ok()?;
+    decide(&Input::from_bench(&bytes), Sizes::of(lines.parse().ok()?));
+    Some(())
 }

@@ -10,6 +10,7 @@ use crate::input::{Book, Heap, Input, Query, MOST_RECORDS};
 use crate::mutate;
 use crate::random::Dice;
 use crate::shapes;
+use crate::sizes;
 use crate::small;
 use crate::unfoldings::{self, Line};
 use reference::domain::Domain;
@@ -23,7 +24,7 @@ struct Pool {
     run: fn(&mut Comparer, &mut Dice),
 }
 
-const FIXED: [Pool; 5] = [
+const FIXED: [Pool; 6] = [
     Pool {
         name: "every small pool",
         program_share: 2_000,
@@ -48,6 +49,11 @@ const FIXED: [Pool; 5] = [
         name: "hostile inputs",
         program_share: 1,
         run: hostile_inputs,
+    },
+    Pool {
+        name: "lent memory",
+        program_share: 10,
+        run: lent_memory,
     },
 ];
 
@@ -83,6 +89,7 @@ const RANDOM: [Pool; 5] = [
 impl Pool {
     fn compare(&self, comparer: &mut Comparer, seed: u64, stream: u64) {
         comparer.program_share = self.program_share;
+        comparer.dice = Dice::new(!seed, stream);
         (self.run)(comparer, &mut Dice::new(seed, stream));
     }
 }
@@ -145,9 +152,30 @@ fn bench_inputs(comparer: &mut Comparer, dice: &mut Dice) {
 fn hostile_inputs(comparer: &mut Comparer, _: &mut Dice) {
     for kept in hostile::kept().expect("the kept inputs are read") {
         if comparer.takes_turn() {
-            comparer.kept(&kept.input, kept.reply);
+            comparer.kept(&kept.input, kept.reply, kept.print);
         }
     }
+}
+
+/// Every size of lent memory for a few pools, with faults too.
+fn lent_memory(comparer: &mut Comparer, dice: &mut Dice) {
+    let mut inputs = small_inputs(dice);
+    for size in [0, 1, 5, 8] {
+        let shapes = shapes::all(dice, size).into_iter();
+        inputs.extend(shapes.map(|shape| Input::new(&shape.book, &shape.heap, &shape.query)));
+    }
+    for input in inputs {
+        if comparer.takes_turn() {
+            sizes::every(comparer, &input);
+        }
+    }
+    let shape = shapes::tree(dice, 7);
+    let input = Input::new(&shape.book, &shape.heap, &shape.query);
+    for faulty in damage::one_of_each_fault(&input) {
+        sizes::every_refused(comparer, &faulty, 0);
+    }
+    sizes::longest_unfolding(comparer, &input);
+    sizes::full_to_the_end(comparer);
 }
 
 /// Each shape in each size, whole and broken by one pointer.
@@ -158,8 +186,7 @@ fn usual_shapes(comparer: &mut Comparer, dice: &mut Dice) {
                 continue;
             }
             let input = Input::new(&shape.book, &shape.heap, &shape.query);
-            let outcome = comparer.decide_known(&input, true);
-            if let Some(lines) = outcome.and_then(unfoldings::lines_of) {
+            for lines in comparer.decide_known(&input, true).unfoldings {
                 unfoldings::check_lines(comparer, dice, &input, &lines, 6);
                 forged(comparer, dice, &shape.book, &input, &lines, 10);
             }
@@ -194,8 +221,7 @@ fn random_pools(comparer: &mut Comparer, dice: &mut Dice) {
         unfoldings::decide_and_check(comparer, dice, &input, 3);
         if let Some((part, query)) = fitting_part(dice, &book, &heap, &query) {
             let input = Input::new(&book, &part, &query);
-            let outcome = comparer.decide_known(&input, true);
-            if let Some(lines) = outcome.and_then(unfoldings::lines_of) {
+            for lines in comparer.decide_known(&input, true).unfoldings {
                 unfoldings::check_lines(comparer, dice, &input, &lines, 4);
                 forged(comparer, dice, &book, &input, &lines, 2);
             }
@@ -298,7 +324,7 @@ fn grown_pools(comparer: &mut Comparer, dice: &mut Dice) {
         let book = any_book(dice, size);
         let (heap, query) = grow::grow(dice, &book, records);
         let input = Input::new(&book, &heap, &query);
-        if let Some(lines) = unfoldings::decide_and_check(comparer, dice, &input, 6) {
+        for lines in unfoldings::decide_and_check(comparer, dice, &input, 6) {
             forged(comparer, dice, &book, &input, &lines, 4);
         }
         if let Some(heap) = shapes::broken(dice, &heap) {
@@ -328,7 +354,7 @@ fn every_damage(comparer: &mut Comparer, dice: &mut Dice, input: &Input) {
     if !comparer.takes_turn() {
         return;
     }
-    if let Some(lines) = comparer.decide(input).and_then(unfoldings::lines_of) {
+    for lines in comparer.decide(input).unfoldings {
         unfoldings::every_damage(comparer, dice, input, &lines);
     }
 }

@@ -2,6 +2,19 @@
 
 pub struct Dice(u64);
 
+const STEP: u64 = 0x9E37_79B9_7F4A_7C15;
+
+fn mixed(mut z: u64) -> u64 {
+    z = (z ^ (z >> 30)).wrapping_mul(0xBF58_476D_1CE4_E5B9);
+    z = (z ^ (z >> 27)).wrapping_mul(0x94D0_49BB_1331_11EB);
+    z ^ (z >> 31)
+}
+
+/// The word that stands at this place for this seed, whatever was asked before.
+pub fn word_at(seed: u64, place: usize) -> u64 {
+    mixed(seed.wrapping_add(STEP.wrapping_mul(place as u64 + 1)))
+}
+
 impl Dice {
     /// `stream` separates the users of one seed, so that a change in how much
     /// one of them draws leaves the others as they were.
@@ -13,11 +26,8 @@ impl Dice {
 
     /// SplitMix64.
     pub fn word(&mut self) -> u64 {
-        self.0 = self.0.wrapping_add(0x9E37_79B9_7F4A_7C15);
-        let mut z = self.0;
-        z = (z ^ (z >> 30)).wrapping_mul(0xBF58_476D_1CE4_E5B9);
-        z = (z ^ (z >> 27)).wrapping_mul(0x94D0_49BB_1331_11EB);
-        z ^ (z >> 31)
+        self.0 = self.0.wrapping_add(STEP);
+        mixed(self.0)
     }
 
     /// A number from 0 up to, not including, `end`.

@@ -1,4 +1,5 @@
-//! Unfoldings for the check: those of the reference, whole and damaged.
+//! Unfoldings for the check: those of the reference and of the engine, whole
+//! and damaged.
 
 use crate::compare::Comparer;
 use crate::input::Input;
@@ -11,18 +12,20 @@ const LINE: usize = 24;
 /// Up to this many lines, every bit is flipped once.
 const ALL_BITS: usize = 4;
 
-/// The engine's entry and, where the pool fits, the check's entry with the
-/// reference's unfolding: whole, and as many times damaged at random. Gives
-/// that unfolding.
+/// Engine and, where the pool fits, check with the reference's unfolding and
+/// with the engine's: whole, and as many times damaged at random. Gives these
+/// unfoldings.
 pub fn decide_and_check(
     comparer: &mut Comparer,
     dice: &mut Dice,
     input: &Input,
     damaged: usize,
-) -> Option<Vec<Line>> {
-    let lines = comparer.decide(input).and_then(lines_of)?;
-    check_lines(comparer, dice, input, &lines, damaged);
-    Some(lines)
+) -> Vec<Vec<Line>> {
+    let unfoldings = comparer.decide(input).unfoldings;
+    for lines in &unfoldings {
+        check_lines(comparer, dice, input, lines, damaged);
+    }
+    unfoldings
 }
 
 /// The unfolding whole, and as many times damaged at random.
@@ -42,15 +45,25 @@ pub fn check_lines(
 /// Fact, positions, and rule with called lines.
 pub type Line = [u64; 3];
 
-/// The reference's unfolding, if there is one.
-pub fn lines_of(outcome: Outcome) -> Option<Vec<Line>> {
-    let memory = outcome.memory?;
-    let words = &memory.space[..3 * outcome.reply.lines];
-    let lines: Vec<Line> = words
-        .chunks(3)
-        .map(|line| [line[0], line[1], line[2]])
-        .collect();
-    (!lines.is_empty()).then_some(lines)
+pub fn lines_of_words(words: &[u64]) -> Vec<Line> {
+    let lines = words.chunks_exact(3);
+    lines.map(|line| [line[0], line[1], line[2]]).collect()
+}
+
+/// The reference's unfolding, without lines if there is none.
+pub fn lines_of(outcome: &Outcome) -> Vec<Line> {
+    let memory = outcome.memory.as_ref();
+    memory.map_or_else(Vec::new, |memory| {
+        lines_of_words(&memory.space[..3 * outcome.reply.lines])
+    })
+}
+
+/// The words in these bytes, lowest byte first; a rest is left out.
+pub fn words_of(bytes: &[u8]) -> Vec<u64> {
+    let eights = bytes.chunks_exact(8);
+    eights
+        .map(|eight| u64::from_le_bytes(eight.try_into().expect("they are eight")))
+        .collect()
 }
 
 pub fn bytes(lines: &[Line]) -> Vec<u8> {
@@ -153,7 +166,7 @@ fn exchange(lines: &mut [Line], one: usize, other: usize) {
 
 /// The first line so many more times in front, and all calls moved on. It is
 /// an unfolding still: the first line calls none.
-fn with_copies(lines: &[Line], copies: usize) -> Vec<Line> {
+pub fn with_copies(lines: &[Line], copies: usize) -> Vec<Line> {
     let mut longer = vec![lines[0]; copies];
     for line in lines {
         let mut line = *line;
