@@ -20,7 +20,7 @@ const MOST_DIFFERENCES: u64 = 5;
 const PROGRESS_EVERY: Duration = Duration::from_secs(10);
 
 /// One of so many inputs is asked with lent memory of other sizes as well.
-const SIZES_SHARE: u64 = 4;
+const SIZES_SHARE: u64 = 2;
 
 /// When to stop, for a run that has no end of its own.
 #[derive(Clone, Copy)]
@@ -106,7 +106,7 @@ impl Comparer {
         self.counted();
         self.decided += 1;
         if self.decided.is_multiple_of(SIZES_SHARE) {
-            let sizes = sizes::drawn(&mut self.dice, reply.facts);
+            let sizes = sizes::drawn(&mut self.dice, reply);
             self.decide_lent(input, sizes);
         }
         if self.decided.is_multiple_of(self.program_share) && !input.book.is_empty() {
@@ -114,6 +114,7 @@ impl Comparer {
         }
         let mut unfoldings = vec![lines_of(&outcome), lines];
         unfoldings.dedup();
+        self.tally.lent.own_unfoldings += unfoldings.len() as u64 - 1;
         unfoldings.retain(|lines| !lines.is_empty());
         Decided {
             reply: Some(reply),
@@ -148,7 +149,7 @@ impl Comparer {
         let before = Instant::now();
         let outcome = patience::outcome(input, sizes);
         match outcome {
-            Some(_) => self.tally.reference.saw(before.elapsed(), input),
+            Some(_) => self.tally.reference.saw(before.elapsed(), input, sizes),
             None => self.tally.passed_over += 1,
         }
         outcome
@@ -158,7 +159,7 @@ impl Comparer {
         let lent = exact(input);
         let before = Instant::now();
         let answer = desk::decide(&lent.book, &lent.snapshot, &lent.question);
-        self.tally.proved.saw(before.elapsed(), input);
+        self.tally.proved.saw(before.elapsed(), input, Sizes::OWN);
         let expected = number(reply);
         self.tally.engine[expected as usize] += 1;
         if answer != expected {
@@ -172,19 +173,19 @@ impl Comparer {
     fn lend(&mut self, input: &Input, sizes: Sizes, reply: Reply, table: Table) -> Vec<Line> {
         let lent = exact(input);
         let manner = self.manner();
+        let by_words = matches!(table, Table::Words(_));
         let before = Instant::now();
         let answer = lent::decide(&lent, sizes, manner);
-        self.tally.proved.saw(before.elapsed(), input);
+        self.tally.proved.saw(before.elapsed(), input, sizes);
         self.tally.lent.calls += 1;
         let lines = match judge::decided(input, reply, table, &answer) {
             Ok(lines) => {
-                self.tally.lent.saw(reply);
+                self.tally.lent.saw(reply, by_words);
                 lines
             }
             Err(wrong) => {
-                let lent = Some((sizes, manner.dirt));
-                let call = call("shapes_decide", input);
-                self.wrong(Call { lent, ..call }, &wrong);
+                let call = call("shapes_decide", input).lent(sizes, manner.dirt);
+                self.wrong(call, &wrong);
                 Vec::new()
             }
         };
@@ -219,9 +220,8 @@ impl Comparer {
             _ => self.tally.check_refused += 1,
         }
         if answer != expected {
-            let unfolding = Some(unfolding);
-            let call = call("desk_check", input);
-            self.other_number(Call { unfolding, ..call }, expected, answer);
+            let call = call("desk_check", input).with(unfolding);
+            self.other_number(call, expected, answer);
         }
         self.check_words(&lent, unfolding, expected);
         self.unchanged(input, &lent);
@@ -243,11 +243,8 @@ impl Comparer {
         self.tally.lent.checks += 1;
         self.tally.lent.taken += expected.1 as u64;
         if let Err(wrong) = judge::checked(expected, &words, &checked) {
-            let call = Call {
-                unfolding: Some(unfolding),
-                lent: Some((Sizes::OWN, manner.dirt)),
-                ..call("shapes_check", input)
-            };
+            let call = call("shapes_check", input).with(unfolding);
+            let call = call.lent(Sizes::OWN, manner.dirt);
             self.wrong(call, &wrong);
         }
     }
@@ -320,6 +317,7 @@ impl Comparer {
     }
 
     fn one_more_difference(&mut self) {
+        println!("  after     {} inputs", self.inputs);
         self.differences += 1;
         if self.differences == MOST_DIFFERENCES {
             println!("{}", self.summary());

@@ -4,36 +4,11 @@ use crate::input::{hex, Input};
 use crate::lent::Sizes;
 
 /// A call, with all that is needed to make it again.
-#[derive(Clone, Copy)]
 pub struct Call<'a> {
-    pub name: &'a str,
-    pub input: &'a Input,
-    pub unfolding: Option<&'a [u8]>,
-    pub lent: Option<(Sizes, u64)>,
-}
-
-impl Call<'_> {
-    pub fn print(&self) {
-        println!("difference: {}", self.name);
-        print!("  again     --input");
-        if let Some((sizes, dirt)) = self.lent {
-            print!(" --lent {} {} --dirt {dirt}", sizes.lines, sizes.words);
-        }
-        for section in self.input.sections() {
-            print!(" {}", hex_or_dash(section));
-        }
-        match self.unfolding {
-            Some(unfolding) => println!(" {}", hex_or_dash(unfolding)),
-            None => println!(),
-        }
-    }
-}
-
-fn hex_or_dash(bytes: &[u8]) -> String {
-    match bytes {
-        [] => "-".into(),
-        _ => hex(bytes),
-    }
+    name: &'a str,
+    input: &'a Input,
+    unfolding: Option<&'a [u8]>,
+    lent: Option<(Sizes, u64)>,
 }
 
 pub fn call<'a>(name: &'a str, input: &'a Input) -> Call<'a> {
@@ -42,5 +17,40 @@ pub fn call<'a>(name: &'a str, input: &'a Input) -> Call<'a> {
         input,
         unfolding: None,
         lent: None,
+    }
+}
+
+impl<'a> Call<'a> {
+    pub fn with(mut self, unfolding: &'a [u8]) -> Call<'a> {
+        self.unfolding = Some(unfolding);
+        self
+    }
+
+    /// With memory of these sizes, and this in it.
+    pub fn lent(mut self, sizes: Sizes, dirt: u64) -> Call<'a> {
+        self.lent = Some((sizes, dirt));
+        self
+    }
+
+    pub fn words(&self) -> String {
+        let mut words = vec!["--input".to_string()];
+        if let Some((Sizes { lines, words: size }, dirt)) = self.lent {
+            words.push(format!("--lent {lines} {size} --dirt {dirt}"));
+        }
+        let sections = self.input.sections().map(Vec::as_slice);
+        let parts = sections.into_iter().chain(self.unfolding);
+        words.extend(parts.map(|part| {
+            if part.is_empty() {
+                "-".into()
+            } else {
+                hex(part)
+            }
+        }));
+        words.join(" ")
+    }
+
+    pub fn print(&self) {
+        println!("difference: {}", self.name);
+        println!("  again     {}", self.words());
     }
 }

@@ -149,15 +149,22 @@ fn longer(answer: &mut Answer, first: Option<Line>) {
 
 type AlterCheck = fn(&mut Checked);
 
-/// Altered answers of the check to the engine's unfolding.
-const CHECK_ALTERED: [(&str, AlterCheck); 4] = [
-    ("not taken", |checked| checked.taken.lent_mut()[0] = 0),
-    ("a refusal", |checked| checked.refusal = 9),
-    ("a word changed", |checked| checked.words[0] ^= 1),
-    ("a word after the number", |checked| {
+/// Altered answers of the check to the engine's unfolding, the last two to a
+/// book with a fault.
+const CHECK_ALTERED: [(Way, &str, AlterCheck); 6] = [
+    (Way::Fits, "not taken", |checked| taken(checked, 0)),
+    (Way::Fits, "a refusal", |checked| checked.refusal = 9),
+    (Way::Fits, "a word changed", |checked| checked.words[0] ^= 1),
+    (Way::Fits, "a word after the number", |checked| {
         checked.taken.write_beyond(0)
     }),
+    (Way::Fault, "taken", |checked| taken(checked, 1)),
+    (Way::Fault, "not written", |checked| taken(checked, 77)),
 ];
+
+fn taken(checked: &mut Checked, value: u64) {
+    checked.taken.lent_mut()[0] = value;
+}
 
 /// Says whether each altered answer was found, and no answer that was not.
 pub fn run() -> bool {
@@ -209,16 +216,17 @@ fn right(way: Way, answer: &Answer) -> bool {
 
 fn check_missed(space: &[u64]) -> Vec<&'static str> {
     let words = &space[..9];
-    let checked = lent::check(&circle(), words, MANNER);
-    let right = |checked: &Checked| judge::checked((0, 1), words, checked).is_ok();
     let mut missed = Vec::new();
-    if !right(&checked) {
-        missed.push("an answer of the check as it is");
-    }
-    for (name, alter) in CHECK_ALTERED {
-        let mut checked = checked.clone();
+    for (way, name, alter) in CHECK_ALTERED {
+        let (input, _) = asked(way);
+        let [book, snapshot, question] = input.sections();
+        let expected = api::check(book, snapshot, question, words);
+        let mut checked = lent::check(&input, words, MANNER);
+        if judge::checked(expected, words, &checked).is_err() {
+            missed.push("an answer of the check as it is");
+        }
         alter(&mut checked);
-        if right(&checked) {
+        if judge::checked(expected, words, &checked).is_ok() {
             missed.push(name);
         }
     }

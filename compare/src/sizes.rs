@@ -5,14 +5,18 @@ use crate::input::{Book, Heap, Input, Query, Rule};
 use crate::lent::{Sizes, MOST_LINES};
 use crate::random::Dice;
 use crate::unfoldings::{bytes, with_copies};
-use reference::api::OWN_LINES;
+use reference::api::{Reply, OWN_LINES};
 
 /// Up to this many facts, every length of the table about that is tried.
 const FEW_FACTS: usize = 40;
 
-/// Some sizes for an input with so many facts in the table that the desk lends.
-/// The longest table is drawn seldom, since it takes long to look through.
-pub fn drawn(dice: &mut Dice, facts: usize) -> Sizes {
+/// Some sizes for an input with this reply in a table such as the desk's. The
+/// longest table is drawn seldom, since it takes long to look through.
+pub fn drawn(dice: &mut Dice, reply: Reply) -> Sizes {
+    let facts = match reply.refusal {
+        11 => OWN_LINES,
+        _ => reply.facts,
+    };
     let lines = match dice.weighted(&[40, 40, 20, 20, 40, 10, 1, 1, 5]) {
         0 => facts,
         1 => facts.saturating_sub(1),
@@ -124,24 +128,24 @@ fn every_part(records: usize) -> Input {
     Input::new(&Book::new(&[0], rules), &heap, &Query::new(0, &[]))
 }
 
-/// Tables that are full, or one line too short: small, long, and the longest.
+/// Tables that are full, or one line too short, or one too long: small, long,
+/// and the longest.
 pub fn full_to_the_end(comparer: &mut Comparer) {
     for records in [0, 1, 2, 5, 10, 11, 15, 16] {
         let input = every_part(records);
         let facts = (1usize << records) - 1;
         for lines in [facts, facts.saturating_sub(1), facts + 1] {
-            if comparer.takes_turn() {
-                comparer.decide_lent(&input, Sizes::of(lines));
-            }
+            comparer.decide_lent(&input, Sizes::of(lines));
         }
     }
 }
 
-/// An unfolding as long as the check takes one, and longer.
+/// An unfolding as long as the desk takes one, as long as the check does, and
+/// longer.
 pub fn longest_unfolding(comparer: &mut Comparer, input: &Input) {
     for lines in comparer.decide(input).unfoldings {
-        for longer in [MOST_LINES - 1, MOST_LINES, MOST_LINES + 1, 2 * MOST_LINES] {
-            if comparer.takes_turn() {
+        for most in [OWN_LINES, MOST_LINES] {
+            for longer in [most - 1, most, most + 1, 2 * most] {
                 let longer = with_copies(&lines, longer - lines.len());
                 comparer.check(input, &bytes(&longer));
             }

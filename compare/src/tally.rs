@@ -1,6 +1,8 @@
 //! What the inputs were, for a reader who wants to know what was tried.
 
-use crate::input::{hex, Input};
+use crate::differences::call;
+use crate::input::Input;
+use crate::lent::Sizes;
 use reference::api::Reply;
 use std::time::Duration;
 
@@ -25,35 +27,32 @@ pub struct Lent {
     pub calls: u64,
     /// Those with other sizes than the desk's.
     pub other_sizes: u64,
-    /// Those that left a table of facts.
-    pub tables: u64,
-    pub unfoldings: u64,
-    pub refusals: [u64; 12],
+    /// Those that left a table of facts, all of which were looked at.
+    tables: u64,
+    unfoldings: u64,
+    /// Inputs for which the engine's unfolding is not the reference's.
+    pub own_unfoldings: u64,
+    refusals: [u64; 12],
     pub checks: u64,
     pub taken: u64,
 }
 
 impl Lent {
     /// A call that gave what it should.
-    pub fn saw(&mut self, reply: Reply) {
-        self.tables += (reply.refusal == 0) as u64;
+    pub fn saw(&mut self, reply: Reply, by_words: bool) {
+        self.tables += (by_words && reply.refusal == 0) as u64;
         self.unfoldings += reply.verdict as u64;
         self.refusals[reply.refusal as usize] += 1;
     }
 
     fn print(&self) {
         println!(
-            "lent memory: {} calls, {} of other sizes; {} tables the same word by word, \
-             {} unfoldings of the engine taken by the reference, {} refusal 10, {} refusal 11; \
-             check: {} calls, {} taken",
-            self.calls,
-            self.other_sizes,
-            self.tables,
-            self.unfoldings,
-            self.refusals[10],
-            self.refusals[11],
-            self.checks,
-            self.taken
+            "lent memory: {} calls, {} with other sizes, {} refusal 10, {} refusal 11; check: {}, {} taken",
+            self.calls, self.other_sizes, self.refusals[10], self.refusals[11], self.checks, self.taken
+        );
+        println!(
+            "{} tables the same word by word; {} unfoldings of the engine taken by the reference, whose own was another for {} inputs",
+            self.tables, self.unfoldings, self.own_unfoldings
         );
     }
 }
@@ -62,23 +61,22 @@ impl Lent {
 #[derive(Default)]
 pub struct Slowest {
     time: Duration,
-    input: Input,
+    asked: Option<(Input, Sizes)>,
 }
 
 impl Slowest {
-    pub fn saw(&mut self, time: Duration, input: &Input) {
+    pub fn saw(&mut self, time: Duration, input: &Input, sizes: Sizes) {
         if time > self.time {
             self.time = time;
-            self.input = input.clone();
+            self.asked = Some((input.clone(), sizes));
         }
     }
 
     /// An answer that took over a second is worth a look at its input.
     fn print(&self, name: &str) {
         println!("slowest, {name}: {:.1} ms", self.time.as_secs_f64() * 1e3);
-        if self.time.as_secs() >= 1 {
-            let [book, snapshot, question] = self.input.sections().map(|section| hex(section));
-            println!("  --input {book} {snapshot} {question}");
+        if let Some((input, sizes)) = self.asked.as_ref().filter(|_| self.time.as_secs() >= 1) {
+            println!("  {}", call(name, input).lent(*sizes, 0).words());
         }
     }
 }
