@@ -4,12 +4,12 @@ use crate::desk;
 use crate::differences::{call, Call};
 use crate::input::{hex, Input};
 use crate::judge::{self, Table};
-use crate::lent::{self, Manner, Sizes};
+use crate::lent::{self, Manner, Sizes, MOST_LINES};
 use crate::patience;
 use crate::random::Dice;
 use crate::sizes;
 use crate::tally::Tally;
-use crate::unfoldings::{lines_of, words_of, Line};
+use crate::unfoldings::{bytes, lines_of, words_of, Line};
 use reference::api::{self, Outcome, Reply, DESK_BYTES};
 use std::path::PathBuf;
 use std::time::{Duration, Instant};
@@ -169,7 +169,7 @@ impl Comparer {
     }
 
     /// Lends memory of these sizes, and looks at all of it after the call.
-    /// Gives the engine's unfolding.
+    /// Gives the engine's unfolding, which the check must take as well.
     fn lend(&mut self, input: &Input, sizes: Sizes, reply: Reply, table: Table) -> Vec<Line> {
         let lent = exact(input);
         let manner = self.manner();
@@ -189,6 +189,9 @@ impl Comparer {
                 Vec::new()
             }
         };
+        if !lines.is_empty() {
+            self.check_words(&lent, &bytes(&lines), 1);
+        }
         self.unchanged(input, &lent);
         lines
     }
@@ -211,9 +214,9 @@ impl Comparer {
     pub fn check(&mut self, input: &Input, unfolding: &[u8]) {
         let lent = exact(input);
         let [book, snapshot, question] = lent.sections();
-        let bytes = &unfolding.to_vec()[..];
-        let expected = api::desk_check(book, snapshot, question, bytes) as u64;
-        let answer = desk::check(book, snapshot, question, bytes);
+        let exact = &unfolding.to_vec()[..];
+        let expected = api::desk_check(book, snapshot, question, exact) as u64;
+        let answer = desk::check(book, snapshot, question, exact);
         match expected {
             0 => self.tally.not_taken += 1,
             1 => self.tally.taken += 1,
@@ -255,6 +258,16 @@ impl Comparer {
         self.desk_decide(input, reply);
         self.lend(input, Sizes::OWN, reply, Table::Kept(print));
         self.counted();
+        if reply.facts > 1 {
+            let full = Reply {
+                refusal: 11,
+                ..Reply::default()
+            };
+            let nothing = Table::Kept(judge::fingerprint(&[]));
+            self.lend(input, Sizes::of(reply.facts), reply, Table::Kept(print));
+            self.lend(input, Sizes::of(reply.facts - 1), full, nothing);
+            self.lend(input, Sizes::of(MOST_LINES), reply, Table::Kept(print));
+        }
         self.program_replies(&[&input.bench_bytes()], reply);
     }
 
