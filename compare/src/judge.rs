@@ -26,21 +26,18 @@ impl Table<'_> {
 
     fn agrees(&self, answer: &Answer) -> Result<(), String> {
         let table = answer.table.lent();
-        let (right, wrong) = match self {
-            Table::AsFound => (
-                answer.table.is_as_found() && answer.space.is_as_found(),
-                "the memory is not as found",
-            ),
-            Table::Words(words) => return same_words(words, table),
+        match self {
+            Table::AsFound => {
+                let right = answer.table.is_as_found() && answer.space.is_as_found();
+                says(right, "the memory is not as found")
+            }
+            Table::Words(words) => same_words(words, table),
             Table::Kept(print) => {
                 let (facts, rest) = table.split_at(answer.numbers[1].lent()[0] as usize);
-                (
-                    fingerprint(facts) == *print && is_zero(rest),
-                    "not the facts that were kept",
-                )
+                let right = fingerprint(facts) == *print && is_zero(rest);
+                says(right, "not the facts that were kept")
             }
-        };
-        says(right, wrong)
+        }
     }
 }
 
@@ -94,34 +91,19 @@ pub fn lines_agree(reply: Reply, lines: usize) -> bool {
 }
 
 fn numbers(expected: Reply, answer: &Answer) -> Result<(), String> {
-    let lines = written_lines(answer);
-    let right = lines_agree(expected, lines);
-    let shown = |[refusal, verdict, facts, rounds]: [u64; 4], lines: &str| {
-        format!("refusal {refusal} verdict {verdict} facts {facts} rounds {rounds} lines {lines}")
-    };
+    let [verdict, facts, rounds, lines] = answer.numbers.each_ref().map(|number| number.lent()[0]);
+    let given = [answer.refusal, verdict, facts, rounds];
     let wanted = [
         expected.refusal as u64,
         expected.verdict as u64,
         expected.facts as u64,
         expected.rounds as u64,
     ];
-    let [verdict, facts, rounds, _] = answer.numbers.each_ref().map(|number| number.lent()[0]);
-    let given = [answer.refusal, verdict, facts, rounds];
-    match right && given == wanted {
-        true => Ok(()),
-        false => Err(format!(
-            "{}; should be {}",
-            shown(given, &lines.to_string()),
-            shown(
-                wanted,
-                if expected.verdict == 1 {
-                    "1 to facts"
-                } else {
-                    "0"
-                }
-            )
-        )),
-    }
+    let right = given == wanted && lines_agree(expected, lines as usize);
+    let wrong = format!(
+        "refusal, verdict, facts, rounds are {given:?}; should be {wanted:?}; lines are {lines}"
+    );
+    says(right, &wrong)
 }
 
 fn borders(answer: &Answer) -> Result<(), String> {

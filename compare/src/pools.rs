@@ -161,13 +161,14 @@ fn hostile_inputs(comparer: &mut Comparer, _: &mut Dice) {
 fn lent_memory(comparer: &mut Comparer, dice: &mut Dice) {
     let mut inputs = small_inputs(dice);
     for size in [0, 1, 5, 8] {
-        let shapes = shapes::all(dice, size).into_iter();
-        inputs.extend(shapes.map(|shape| Input::new(&shape.book, &shape.heap, &shape.query)));
+        for shape in shapes::all(dice, size) {
+            let broken = shapes::broken(dice, &shape.heap);
+            let heaps = broken.into_iter().chain([shape.heap]);
+            inputs.extend(heaps.map(|heap| Input::new(&shape.book, &heap, &shape.query)));
+        }
     }
     for input in inputs {
-        if comparer.takes_turn() {
-            sizes::every(comparer, &input);
-        }
+        sizes::every(comparer, &input);
     }
     let shape = shapes::tree(dice, 7);
     let input = Input::new(&shape.book, &shape.heap, &shape.query);
