@@ -1,6 +1,7 @@
 #!/usr/bin/env bash
-# Instructions of one call on each named pool, proved program beside reference,
-# counted by callgrind. Names of pools may be given; `compare --names` lists them.
+# Instructions of one call on each named pool, counted by callgrind: the desk's
+# entry, which brings its own memory, the library's on lent memory of the same
+# size, and the reference. Names of pools may be given; `compare --names` lists them.
 set -euo pipefail
 cd "$(dirname "$0")"
 program=../target/compare/release/compare
@@ -16,11 +17,12 @@ count() {
 }
 
 if [ $# -gt 0 ]; then pools=("$@"); else mapfile -t pools < <("$program" --names); fi
-echo "| pool | proved | reference | reference / proved |"
-echo "|-|-|-|-|"
+echo "| pool | proved | proved, lent memory | reference | reference / proved |"
+echo "|-|-|-|-|-|"
 for pool in "${pools[@]}"; do
     proved=$(count "$pool" proved)
+    lent=$(count "$pool" lent)
     reference=$(count "$pool" reference)
-    awk -v p="$pool" -v a="$proved" -v b="$reference" \
-        'BEGIN { printf "| %s | %d | %d | %.1f |\n", p, a, b, b / a }'
+    awk -v p="$pool" -v a="$proved" -v l="$lent" -v b="$reference" \
+        'BEGIN { printf "| %s | %d | %d | %d | %.1f |\n", p, a, l, b, b / a }'
 done

@@ -6,6 +6,7 @@ use crate::costly;
 use crate::desk;
 use crate::hostile::{self, Hostile};
 use crate::input::Input;
+use crate::lent::{self, Sizes};
 use crate::random::Dice;
 use crate::shapes::{self, Shape};
 use reference::api::{self, Reply};
@@ -66,6 +67,13 @@ fn always_true(size: usize) -> Input {
 #[inline(never)]
 pub fn measured_proved(input: &Input) -> u64 {
     desk::decide(&input.book, &input.snapshot, &input.question)
+}
+
+/// The library `shapes`, on zeros of the same sizes. What lends them is counted
+/// apart: see `--once`.
+#[inline(never)]
+fn measured_lent(input: &Input, table: &mut [u64], space: &mut [u64]) -> u64 {
+    lent::decide_on(input, table, space).0
 }
 
 #[inline(never)]
@@ -250,11 +258,19 @@ fn hostile_row(hostile: &Hostile) {
 }
 
 /// One call on a named pool, for instruction counts.
-pub fn once(name: &str, proved: bool) -> Option<u64> {
+pub fn once(name: &str, which: &str) -> Option<u64> {
     let (_, input) = pools().into_iter().find(|(pool, _)| pool == name)?;
-    Some(if proved {
-        measured_proved(&input)
-    } else {
-        measured_reference(&input)
-    })
+    match which {
+        "proved" => Some(measured_proved(&input)),
+        "lent" => {
+            let Sizes { lines, words } = Sizes::OWN;
+            Some(measured_lent(
+                &input,
+                &mut vec![0; lines],
+                &mut vec![0; words],
+            ))
+        }
+        "reference" => Some(measured_reference(&input)),
+        _ => None,
+    }
 }

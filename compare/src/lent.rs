@@ -154,20 +154,40 @@ fn number(manner: Manner) -> Block {
 }
 
 pub fn decide(input: &Input, sizes: Sizes, manner: Manner) -> Answer {
+    let mut table = Block::new(sizes.lines, manner);
+    let mut space = Block::new(sizes.words, manner);
+    let mut numbers = [0; 4].map(|_| number(manner));
+    let refusal = {
+        let [verdict, facts, rounds, lines] =
+            numbers.each_mut().map(|each| &mut each.lent_mut()[0]);
+        let into = [verdict, facts, rounds, lines];
+        call_decide(input, table.lent_mut(), space.lent_mut(), into)
+    };
+    Answer {
+        refusal,
+        numbers,
+        table,
+        space,
+    }
+}
+
+/// The refusal, and verdict, facts, rounds and lines.
+pub fn decide_on(input: &Input, table: &mut [u64], space: &mut [u64]) -> (u64, [u64; 4]) {
+    let mut numbers = [0; 4];
+    let refusal = call_decide(input, table, space, numbers.each_mut());
+    (refusal, numbers)
+}
+
+fn call_decide(input: &Input, table: &mut [u64], space: &mut [u64], numbers: [&mut u64; 4]) -> u64 {
     let Input {
         book,
         snapshot,
         question,
     } = input;
-    let mut table = Block::new(sizes.lines, manner);
-    let mut space = Block::new(sizes.words, manner);
-    let mut numbers = [0; 4].map(|_| number(manner));
-    let [verdict, facts, rounds, lines] = numbers
-        .each_mut()
-        .map(|number| number.lent_mut().as_mut_ptr());
+    let [verdict, facts, rounds, lines] = numbers;
     // Safety: each pointer is to as many bytes or words as the length after it
     // says, the last four to one word each; all are apart from each other.
-    let refusal = unsafe {
+    unsafe {
         shapes_decide(
             book.as_ptr(),
             book.len(),
@@ -175,21 +195,15 @@ pub fn decide(input: &Input, sizes: Sizes, manner: Manner) -> Answer {
             snapshot.len(),
             question.as_ptr(),
             question.len(),
-            table.lent_mut().as_mut_ptr(),
-            sizes.lines,
-            space.lent_mut().as_mut_ptr(),
-            sizes.words,
+            table.as_mut_ptr(),
+            table.len(),
+            space.as_mut_ptr(),
+            space.len(),
             verdict,
             facts,
             rounds,
             lines,
         )
-    };
-    Answer {
-        refusal,
-        numbers,
-        table,
-        space,
     }
 }
 

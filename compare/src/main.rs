@@ -34,7 +34,7 @@ const USAGE: &str = "usage: compare [--seed N] [--long [COUNT | SECONDSs]] [--th
                [--pool NAME] [--program PATH | --no-program] [--exact]
        compare --bench [POOL...]
        compare --names
-       compare --once POOL proved|reference
+       compare --once POOL proved|lent|reference
        compare --input [--lent LINES WORDS] [--dirt N]
                BOOK SNAPSHOT QUESTION [UNFOLDING]   (in hex, - for none)
        compare --self-test
@@ -67,9 +67,7 @@ fn main() -> ExitCode {
                 .for_each(|(name, _)| println!("{name}"));
             true
         }
-        Some((&"--once", [name, which @ ("proved" | "reference")])) => {
-            bench::once(name, *which == "proved").is_some()
-        }
+        Some((&"--once", [name, which])) => bench::once(name, which).is_some(),
         Some((&"--input", words)) => again::run(words).is_some(),
         Some((&"--self-test", [])) => return ExitCode::from(!selftest::run() as u8),
         Some((&"--write-hostile", [])) => hostile::write().is_ok(),
