@@ -1,16 +1,20 @@
 """The proved library, called from Python. It is made of the crates where it is missing or older than their code."""
 
 import ctypes
+import fcntl
 import os
 import shutil
 import subprocess
-import sys
 import threading
-from collections.abc import Sequence
+import time
+from collections import deque
+from collections.abc import Iterator, Sequence
+from contextlib import contextmanager
 from dataclasses import dataclass
 from pathlib import Path
 
-from workbench.mistake import Mistake
+from workbench.mistake import Unusable
+from workbench.output import say_wrong
 
 ROOT = Path(__file__).resolve().parent.parent
 LIBRARY = ROOT / "target" / "libshapes.so"
@@ -85,14 +89,24 @@ def _loaded() -> ctypes.CDLL:
 
 
 def _declared(path: Path) -> ctypes.CDLL:
+    if _is_cut(path):
+        raise Unusable("cannot be used: it is cut short; delete it, and it is made again", shown(path))
     try:
         library = ctypes.CDLL(str(path))
         library.shapes_decide.argtypes = BLOCKS + [WORDS, ctypes.c_size_t] * 2 + [WORDS] * 4
         library.shapes_check.argtypes = BLOCKS + [WORDS, ctypes.c_size_t, WORDS]
     except (OSError, AttributeError) as fault:
-        raise Mistake(f"cannot be used: {fault}; delete it, and it is made again", shown(path)) from fault
+        raise Unusable(f"cannot be used: {fault}; delete it, and it is made again", shown(path)) from fault
     library.shapes_decide.restype = library.shapes_check.restype = ctypes.c_uint64
     return library
+
+
+def _is_cut(path: Path) -> bool:
+    """Whether the table that stands last in an ELF file is not all there. To load such a file may end this program without a word."""
+    with open(path, "rb") as file:
+        head = file.read(64)
+    at, size, count = (int.from_bytes(head[low:high], "little") for low, high in ((40, 48), (58, 60), (60, 62)))
+    return head[:4] == b"\x7fELF" and at + size * count > path.stat().st_size
 
 
 def sources(root: Path) -> list[Path]:
@@ -107,26 +121,69 @@ def is_stale(library: Path, code: list[Path]) -> bool:
 
 
 def make() -> None:
-    """Proves the library and links it. A new one takes the old one's place in one step, so that no program loads half a file."""
+    """Proves the library and links it, unless another process is at it and does so."""
     for tool, advice in (("rt", "install the Rattle kit"), ("gcc", "install gcc (Debian: gcc)")):
         if shutil.which(tool) is None:
-            raise Mistake(f"{tool} is not on the path, and {shown(LIBRARY)} is to be made: {advice}")
-    print(f"making {shown(LIBRARY)}: the library is proved first, which takes some minutes", file=sys.stderr, flush=True)
-    _run(["rt", "staticlib", "shapes"])
+            raise Unusable(f"{tool} is not on the path, and {shown(LIBRARY)} is to be made: {advice}")
+    try:
+        with _alone() as lock:
+            if is_stale(LIBRARY, sources(ROOT)):
+                _make(lock)
+    except OSError as fault:
+        raise Unusable(f"cannot be made: {fault.strerror or fault}: see to {fault.filename or 'its directory'}", shown(LIBRARY)) from None
+
+
+@contextmanager
+def _alone() -> Iterator[int]:
+    """Two at once would prove into the same folders, and each could find halves of the other's there: the second one waits."""
+    LIBRARY.parent.mkdir(exist_ok=True)
+    lock = os.open(LIBRARY.parent, os.O_RDONLY)
+    try:
+        try:
+            fcntl.flock(lock, fcntl.LOCK_EX | fcntl.LOCK_NB)
+        except BlockingIOError:
+            say_wrong(f"waiting: another ./shapes is making {shown(LIBRARY)}, which takes some minutes\n")
+            fcntl.flock(lock, fcntl.LOCK_EX)
+        yield lock
+    finally:
+        os.close(lock)
+
+
+def _make(lock: int) -> None:
+    """A new library takes the old one's place in one step, so that no program loads half a file."""
+    say_wrong(f"making {shown(LIBRARY)}: the library is proved first, which takes some minutes\n")
+    started = time.time()
+    _run(["rt", "staticlib", "shapes"], lock)
     made = LIBRARY.with_name(f"libshapes.{os.getpid()}.so")
     try:
-        _run(["gcc", "-shared", "-Wl,--whole-archive", str(ARCHIVE), "-Wl,--no-whole-archive", "-o", str(made)])
+        _run(["gcc", "-shared", "-Wl,--whole-archive", str(ARCHIVE), "-Wl,--no-whole-archive", "-o", str(made)], lock)
+        # It is as old as the code that it was made of: what was changed meanwhile is newer.
+        os.utime(made, (started, started))
         made.rename(LIBRARY)
     finally:
         made.unlink(missing_ok=True)
 
 
-def _run(command: list[str]) -> None:
-    done = subprocess.run(command, cwd=ROOT, stdin=subprocess.DEVNULL, stdout=subprocess.PIPE, stderr=subprocess.STDOUT, check=False)
-    if done.returncode:
-        end = done.stdout.decode(errors="replace").splitlines()[-LAST_LINES_SHOWN:]
-        print("\n".join(["...", *end]), file=sys.stderr, flush=True)
-        raise Mistake(f"`{' '.join(command[:3])}` failed with status {done.returncode}: correct what it says above, and ask again")
+def _run(command: list[str], lock: int) -> None:
+    """Passes on what rt says about each crate, so that one sees how far it is. The tool has the lock too, since it may outlive us."""
+    others: deque[str] = deque(maxlen=LAST_LINES_SHOWN)
+    child = subprocess.Popen(
+        command, cwd=ROOT, stdin=subprocess.DEVNULL, stdout=subprocess.PIPE, stderr=subprocess.STDOUT, pass_fds=(lock,)
+    )
+    with child:
+        try:
+            for line in child.stdout or ():
+                text = line.decode(errors="replace").rstrip()
+                if text.startswith("rt: "):
+                    say_wrong(f"  {text}\n")
+                else:
+                    others.append(text)
+        except BaseException:
+            child.kill()
+            raise
+    if child.returncode:
+        say_wrong("\n".join(["...", *others, ""]))
+        raise Unusable(f"`{' '.join(command[:3])}` failed with status {child.returncode}: correct what it says above, and ask again")
 
 
 def shown(path: Path) -> str:

@@ -18,17 +18,21 @@ class Mistake(Exception):
         self.text = text
 
     def __str__(self) -> str:
-        message, source = _printable(self.message), _printable(self.source)
+        message, source = printable(self.message), printable(self.source)
         if not self.line:
             return f"{source}: {message}" if source else message
         # Of a line that would fill the screen, only what is around the place.
         start = max(0, self.column - 1 - MOST_SHOWN // 2) if len(self.text) > MOST_SHOWN else 0
-        shown = _printable(self.text[start : start + MOST_SHOWN])
+        shown = printable(self.text[start : start + MOST_SHOWN])
         before = _width(shown[: self.column - 1 - start])
         return f"{source}:{self.line}:{self.column}: {message}\n  {shown.rstrip()}\n  {' ' * before}^"
 
 
-def _printable(text: str) -> str:
+class Unusable(Mistake):
+    """The library cannot be made or loaded, so that nothing can be asked."""
+
+
+def printable(text: str) -> str:
     """A file's control characters must not reach the terminal; each keeps its column."""
     return "".join(each if each.isprintable() else " " if each.isspace() else "?" for each in text)
 

@@ -4,10 +4,11 @@ import unittest
 from contextlib import redirect_stderr
 from io import StringIO
 from pathlib import Path
+from threading import Thread
 from unittest import mock
 
 from workbench import library
-from workbench.mistake import Mistake
+from workbench.mistake import Unusable
 from workbench.tests.engine_samples import FROM_TEN_TO_TEN_BYTES, L_BYTES, NOTHING_BYTES, S_BYTES, TWO_BYTES, TWO_WORDS
 
 
@@ -94,25 +95,71 @@ class Making(unittest.TestCase):
         self.assertIn("making target/libshapes.so: the library is proved first, which takes some minutes\n", self.said.getvalue())
 
     def test_missing_tools(self):
-        with self.assertRaisesRegex(Mistake, "rt is not on the path"):
+        with self.assertRaisesRegex(Unusable, "rt is not on the path"):
             library.make()
         self.tool("rt", "true")
-        with self.assertRaisesRegex(Mistake, "gcc is not on the path"):
+        with self.assertRaisesRegex(Unusable, "gcc is not on the path"):
             library.make()
 
     def test_failing_tools(self):
         self.tool("gcc", "echo no such archive >&2; exit 1")
         self.tool("rt", "echo one; echo two >&2; exit 3")
-        with self.assertRaisesRegex(Mistake, "`rt staticlib shapes` failed with status 3"):
+        with self.assertRaisesRegex(Unusable, "`rt staticlib shapes` failed with status 3"):
             library.make()
         self.assertIn("\n...\none\ntwo\n", self.said.getvalue())
         self.tool("rt", "true")
-        with self.assertRaisesRegex(Mistake, "`gcc -shared .*` failed with status 1"):
+        with self.assertRaisesRegex(Unusable, "`gcc -shared .*` failed with status 1"):
             library.make()
         self.assertIn("no such archive", self.said.getvalue())
         self.assertFalse(self.library.exists())
 
+    def test_what_rt_says_of_each_crate_is_passed_on(self):
+        self.tool("rt", "echo rt: one proved; echo more; echo rt: two NOT PROVED; exit 1")
+        self.tool("gcc", "true")
+        with self.assertRaises(Unusable):
+            library.make()
+        self.assertIn("minutes\n  rt: one proved\n  rt: two NOT PROVED\n...\nmore\n", self.said.getvalue())
+
+    def test_two_at_once(self):
+        """The second one waits, and finds what the first one made."""
+        self.tool("rt", "echo run >> runs; PATH=/usr/bin:/bin sleep 1")
+        self.tool("gcc", 'for last; do :; done; echo > "$last"')
+        both = [Thread(target=library.make) for _ in range(2)]
+        for each in both:
+            each.start()
+        for each in both:
+            each.join()
+        self.assertEqual((self.root / "runs").read_text(), "run\n")
+        self.assertRegex(self.said.getvalue(), "waiting: another ./shapes is making target/libshapes.so")
+
+    def test_code_changed_while_it_is_made_is_newer(self):
+        os.utime(self.code, (1000, 1000))
+        self.tool("rt", f"PATH=/usr/bin:/bin sleep 0.1; echo >> {self.code}")
+        self.tool("gcc", 'for last; do :; done; echo > "$last"')
+        library.make()
+        self.assertTrue(library.is_stale(self.library, [self.code]))
+
+    def test_nowhere_to_make_it(self):
+        self.tool("rt", "true")
+        self.tool("gcc", "true")
+        (self.root / "target").rmdir()
+        (self.root / "target").write_text("")
+        with self.assertRaisesRegex(Unusable, "cannot be made: "):
+            library.make()
+
     def test_no_library(self):
         self.library.write_text("rubbish")
-        with self.assertRaisesRegex(Mistake, "delete it"):
+        with self.assertRaisesRegex(Unusable, "delete it"):
             library._declared(self.library)
+
+
+class Loading(unittest.TestCase):
+    def test_a_library_cut_short(self):
+        """Of most lengths the system ends the program that loads it."""
+        whole = library.LIBRARY.read_bytes()
+        with tempfile.TemporaryDirectory() as folder:
+            path = Path(folder) / "libshapes.so"
+            for length in (0, 3, 63, 64, 1000, len(whole) // 2, len(whole) - 1):
+                path.write_bytes(whole[:length])
+                with self.subTest(length=length), self.assertRaisesRegex(Unusable, "delete it"):
+                    library._declared(path)
