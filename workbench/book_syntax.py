@@ -146,6 +146,8 @@ def _atom(tokens: Tokens, case: Case) -> None:
     token, after = tokens.peek(), tokens.peek(1)
     if token.kind == "number":
         raise _number(tokens, token)
+    if token.kind == "(":
+        raise tokens.mistake("( begins no atom: write atoms without parentheses around them", token)
     if token.kind != "name":
         raise tokens.mistake(f"an atom is missing before {shown(token)}: write one, or emp where there is none", token)
     if token.text == "exists":

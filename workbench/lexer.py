@@ -155,6 +155,8 @@ class Tokens:
 
 def _unknown(character: str) -> str:
     name = f"{character} (U+{ord(character):04X})" if character.isprintable() else f"U+{ord(character):04X}"
+    if character.isdecimal():
+        return f"the digit {name} has no meaning here: write the digits 0 to 9"
     return f"the character {name} has no meaning here: take it away; names have letters, digits, _ and '"
 
 

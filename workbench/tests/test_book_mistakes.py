@@ -140,6 +140,7 @@ FORM = [
     ("p { a -> ‸q(b) => p(a) }", "q begins another atom where a field is due: write a -> c * and then that atom"),
     ("p { a = ‸=> p(a) }", "a term is missing before =>: write a name or nil"),
     ("p { ‸= b => p(a) }", "an atom is missing before =: write one, or emp where there is none"),
+    ("p { ‸(a = b) => p(a) }", "( begins no atom: write atoms without parentheses around them"),
     ("p { ‸=> p(a) }", "an atom is missing before =>: write one, or emp where there is none"),
     ("p { ‸a => p(a) }", "a alone is no atom: write a() for a predicate without arguments, or =, != or -> after it"),
     (

@@ -60,7 +60,7 @@ class Lexer(unittest.TestCase):
             ("a\n b ‸$ c", "the character $ (U+0024) has no meaning here: take it away; names have letters, digits, _ and '"),
             ("a‸\x1b[0m", "the character U+001B has no meaning here: take it away; names have letters, digits, _ and '"),
             ("‸'a", "the character ' (U+0027) has no meaning here: take it away; names have letters, digits, _ and '"),
-            ("a‸٣", "the character ٣ (U+0663) has no meaning here: take it away; names have letters, digits, _ and '"),
+            ("a‸٣", "the digit ٣ (U+0663) has no meaning here: write the digits 0 to 9"),
             ("‸00", "00 begins with 0: write 0, or 0x and the digits for base sixteen"),
             ("‸10'", "10' is no number and no name: write base sixteen after 0x; a name begins with a letter"),
             ("‸0xfg", "0xfg is no number and no name: write base sixteen after 0x; a name begins with a letter"),
