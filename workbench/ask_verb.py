@@ -4,9 +4,9 @@ from collections.abc import Callable
 
 from workbench import report_json
 from workbench.asking import DOES_NOT_FIT, FITS, Answer, Asked, ask
-from workbench.mistake import Mistake
+from workbench.mistake import Mistake, Unusable, printable
 from workbench.operands import one_standard_input, parsed, parser, read_question, write_file
-from workbench.output import complain, say, say_wrong
+from workbench.output import complain, say
 from workbench.render import answer_text, short_text, sum_text
 from workbench.sources import read_book, read_pool, source_name
 from workbench.status import FAULT, NO, YES
@@ -25,67 +25,85 @@ def ask_verb(arguments: list[str]) -> int:
     made.add_argument("--save", metavar="FILE", help="write the unfolding of the one pool to FILE, which `check` takes")
     options = parsed(made, arguments, 3, None)
     book_file, *pool_files, question_text = options.operands
-    if options.save and len(pool_files) > 1:
-        raise Mistake("--save writes the unfolding of one pool: name one pool")
-    one_standard_input((book_file, *pool_files))
-    book, book_bytes, book_name = read_book(book_file)
-    question, question_bytes = read_question(question_text, book)
+    book = question = None
+    try:
+        if options.save and len(pool_files) > 1:
+            raise Mistake("--save writes the unfolding of one pool: name one pool")
+        one_standard_input((book_file, *pool_files))
+        book, book_bytes, _ = read_book(book_file)
+        question, question_bytes = read_question(question_text, book)
 
-    def answer_about(pool_file: str) -> Answer:
-        pool, pool_bytes, _ = read_pool(pool_file)
-        return ask(Asked(book_bytes, pool_bytes, question_bytes, book, pool, question))
+        def answer_about(pool_file: str) -> Answer:
+            pool, pool_bytes, _ = read_pool(pool_file)
+            return ask(Asked(book_bytes, pool_bytes, question_bytes, book, pool, question))
 
-    if options.json:
+        if not options.json:
+            return _ask_one(pool_files[0], answer_about, options.save) if len(pool_files) == 1 else _ask_many(pool_files, answer_about)
         status, results = _ask_json(pool_files, answer_about, options.save)
-        say(report_json.report(book_name, book, question, results))
-        return status
-    return _ask_one(pool_files[0], answer_about, options.save) if len(pool_files) == 1 else _ask_many(pool_files, answer_about)
+    except Mistake as mistake:
+        if not options.json:
+            raise
+        # Whoever reads JSON gets an object then too.
+        complain(mistake)
+        status, results = FAULT, [report_json.not_read(source_name(file), mistake) for file in pool_files]
+    say(report_json.report(source_name(book_file), book, question, results))
+    return status
 
 
 def _ask_one(pool_file: str, answer_about: Callable[[str], Answer], save: str | None) -> int:
     answer = answer_about(pool_file)
-    _save(answer, save)
+    saved = _save(answer, save)
     say(answer_text(answer))
-    return status_of([answer.kind])
+    return max(saved, status_of([answer.kind]))
 
 
 def _ask_many(pool_files: list[str], answer_about: Callable[[str], Answer]) -> int:
     """One row for each pool, as soon as it is there."""
-    width = max(len(source_name(file)) for file in pool_files)
+    names = [printable(source_name(file)) for file in pool_files]
     kinds = []
-    for file in pool_files:
+    for file, name in zip(pool_files, names):
         try:
             answer = answer_about(file)
             kind, words = answer.kind, short_text(answer)
+        except Unusable:
+            raise
         except Mistake as mistake:
             kind = words = report_json.NOT_READ
             complain(mistake)
         kinds.append(kind)
-        say(f"{source_name(file).ljust(width)}   {words}\n")
+        say(f"{name.ljust(max(map(len, names)))}   {words}\n")
     say(sum_text(kinds) + "\n")
     return status_of(kinds)
 
 
 def _ask_json(pool_files: list[str], answer_about: Callable[[str], Answer], save: str | None) -> tuple[int, list[dict]]:
-    results = []
+    results, saved = [], YES
     for file in pool_files:
         try:
             answer = answer_about(file)
-            _save(answer, save)
+            saved = _save(answer, save)
             results.append(report_json.result(source_name(file), answer))
+        except Unusable:
+            raise
         except Mistake as mistake:
             complain(mistake)
             results.append(report_json.not_read(source_name(file), mistake))
-    return status_of([result["answer"] for result in results]), results
+    return max(saved, status_of([result["answer"] for result in results])), results
 
 
-def _save(answer: Answer, save: str | None) -> None:
+def _save(answer: Answer, save: str | None) -> int:
+    """The status. What cannot be written is no reason to lose the answer, which may have taken a while."""
     if save is None:
-        return
-    if answer.kind == FITS:
+        return YES
+    if answer.kind != FITS:
+        complain(f"nothing is written to {save}: only a pool that fits has an unfolding")
+        return YES
+    try:
         write_file(save, words_to_bytes(answer.reply.words))
-    else:
-        say_wrong(f"shapes: nothing is written to {save}: only a pool that fits has an unfolding\n")
+    except Mistake as mistake:
+        complain(mistake)
+        return FAULT
+    return YES
 
 
 def status_of(kinds: list[str]) -> int:

@@ -50,7 +50,7 @@ class Answer:
 def ask(asked: Asked) -> Answer:
     reply = _reply(asked)
     if reply.refusal:
-        return Answer(asked, reply, detail=_detail(asked))
+        return Answer(asked, reply, detail=detail(asked))
     if asked.book is None or asked.pool is None or asked.question is None:
         raise Mistake("the library reads what the workbench could not: they are not of one version")
     if not reply.verdict:
@@ -64,7 +64,8 @@ def _reply(asked: Asked) -> library.Reply:
     return library.decide(*blocks, library.MOST_LINES) if reply.refusal == TABLE_TOO_SHORT else reply
 
 
-def _detail(asked: Asked) -> str:
+def detail(asked: Asked) -> str:
+    """The first byte at fault, where bytes are refused."""
     try:
         if asked.book is None:
             explain_book(asked.book_bytes)

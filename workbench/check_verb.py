@@ -1,7 +1,7 @@
 """The verb `check`: an unfolding from a file, and where it is not taken what a reader stumbles on."""
 
 from workbench import library
-from workbench.asking import Asked
+from workbench.asking import Asked, detail
 from workbench.mistake import Mistake
 from workbench.operands import one_standard_input, parsed, parser, read_asked
 from workbench.output import say
@@ -29,7 +29,7 @@ def check_verb(arguments: list[str]) -> int:
     words, doubt = _words(data, words_file)
     refusal, taken = library.check(asked.book_bytes, asked.pool_bytes, asked.question_bytes, words)
     if refusal:
-        say(refusal_text(refusal) + "\n")
+        say(refusal_text(refusal, detail(asked)) + "\n")
         return FAULT
     say("taken\n" if taken else "not taken\n" + (doubt or _doubt(words, asked)))
     return YES if taken else NO

@@ -1,11 +1,10 @@
 """The verbs `encode` and `decode`."""
 
 import argparse
-import sys
 
 from workbench import coding
 from workbench.operands import one_standard_input, parsed, parser, write_file
-from workbench.output import say_bytes
+from workbench.output import is_terminal, say_bytes
 from workbench.status import YES
 from workbench.wording import nearest
 
@@ -25,7 +24,7 @@ def encode_verb(arguments: list[str]) -> int:
     made.add_argument("--hex", action="store_true", help="write base sixteen as text instead of bytes")
     options = parsed(made, arguments, 2, 4)
     data = _of_kind(made, options.operands, coding.ENCODERS)
-    as_hex = options.hex or (options.o is None and sys.stdout.isatty())
+    as_hex = options.hex or (options.o is None and is_terminal())
     _write_out(options.o, coding.hex_text(data).encode() if as_hex else data)
     return YES
 

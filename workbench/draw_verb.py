@@ -4,7 +4,7 @@ from workbench.asking import REFUSED, ask
 from workbench.draw import dot_text, format_of, picture
 from workbench.operands import parsed, parser, read_asked, write_file
 from workbench.output import say
-from workbench.render import refusal_text
+from workbench.render import answer_text
 from workbench.status import FAULT, YES
 
 
@@ -21,7 +21,7 @@ def draw_verb(arguments: list[str]) -> int:
     format_name = format_of(options.o)
     answer = ask(read_asked(*options.operands))
     if answer.kind == REFUSED:
-        say(refusal_text(answer.reply.refusal) + "\n")
+        say(answer_text(answer))
         return FAULT
     write_file(options.o, picture(dot_text(answer), format_name))
     say(f"{answer.kind}\n")

@@ -1,21 +1,29 @@
 """What is given to the verbs: how it is parsed, and files and questions read."""
 
 import argparse
+import os
 from collections.abc import Sequence
 
 from workbench.asking import Asked
 from workbench.mistake import Mistake
 from workbench.model import Book, Question
+from workbench.output import say
 from workbench.question_bytes import encode_question
 from workbench.question_text import parse_question
-from workbench.sources import read_book, read_pool
+from workbench.sources import read_book, read_pool, source_name
 
 OPERANDS = """BOOK is a file with rules, as text or as bytes; the word house stands for the house book. POOL is a file with records, as
 text or as a snapshot's bytes. One of the files may be -, for standard input. A QUESTION is text, such as 'segment(10, nil)'."""
 
 
+class _Parser(argparse.ArgumentParser):
+    def print_help(self, file=None) -> None:
+        """As every output, so that a full disk is noticed."""
+        say(self.format_help())
+
+
 def parser(verb: str, usage: str, what: str, example: str) -> argparse.ArgumentParser:
-    made = argparse.ArgumentParser(
+    made = _Parser(
         prog=f"./shapes {verb}",
         usage=f"./shapes {verb} {usage}",
         description=what,
@@ -45,7 +53,12 @@ def read_question(text: str, book: Book | None) -> tuple[Question | None, bytes]
     """No question where the bytes of the book are not well-formed: the engine refuses the book before it looks at the question."""
     if book is None:
         return None, b""
-    question = parse_question(text, book)
+    try:
+        question = parse_question(text, book)
+    except Mistake:
+        if os.path.isfile(text):
+            raise Mistake("this is a file where a question such as 'segment(10, nil)' is due: see to the order, with --help", text) from None
+        raise
     return question, encode_question(question)
 
 
@@ -59,7 +72,33 @@ def read_asked(book_file: str, pool_file: str, question_text: str) -> Asked:
 
 def write_file(path: str, data: bytes) -> None:
     try:
-        with open(path, "wb") as file:
-            file.write(data)
+        _write_whole(path, data) if _is_replaceable(path) else _write(path, data)
+    except FileNotFoundError:
+        raise Mistake("cannot be written: there is no such directory", source_name(path)) from None
     except (OSError, ValueError) as fault:
-        raise Mistake(f"cannot be written: {getattr(fault, 'strerror', None) or fault}", path) from None
+        raise Mistake(f"cannot be written: {getattr(fault, 'strerror', None) or fault}", source_name(path)) from None
+
+
+def _is_replaceable(path: str) -> bool:
+    """Whether a new file can take this one's place: no device, no link, nothing that may not be written."""
+    folder, name = os.path.split(path)
+    free = not os.path.lexists(path) or (os.path.isfile(path) and not os.path.islink(path) and os.access(path, os.W_OK))
+    return bool(name) and free and os.access(folder or ".", os.W_OK)
+
+
+def _write_whole(path: str, data: bytes) -> None:
+    """In one step: where the disk is full there is no half of it, and what was there before stays."""
+    part = os.path.join(os.path.dirname(path), f".shapes.{os.getpid()}.part")
+    try:
+        _write(part, data)
+        if os.path.exists(path):
+            os.chmod(part, os.stat(path).st_mode & 0o7777)
+        os.replace(part, path)
+    finally:
+        if os.path.lexists(part):
+            os.unlink(part)
+
+
+def _write(path: str, data: bytes) -> None:
+    with open(path, "wb") as file:
+        file.write(data)

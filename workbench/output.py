@@ -3,12 +3,16 @@
 import os
 import sys
 
-from workbench.mistake import Mistake
+from workbench.mistake import Mistake, printable
 
 
 def say(text: str) -> None:
     """To standard output. Where nobody reads that any more, as after `| head -1`, the answer still decides the status."""
     say_bytes(text.encode(errors="backslashreplace"))
+
+
+def is_terminal() -> bool:
+    return sys.stdout is not None and sys.stdout.isatty()
 
 
 def say_bytes(data: bytes) -> None:
@@ -42,8 +46,10 @@ def say_wrong(text: str) -> None:
 
 
 def complain(mistake: Mistake | str) -> None:
-    named = isinstance(mistake, Mistake) and mistake.source
-    say_wrong(f"{mistake}\n" if named else f"shapes: {mistake}\n")
+    if isinstance(mistake, str):
+        say_wrong(f"shapes: {printable(mistake)}\n")
+    else:
+        say_wrong(f"{mistake}\n" if mistake.source else f"shapes: {mistake}\n")
 
 
 def flush() -> None:

@@ -16,13 +16,13 @@ ORDINALS = ("first", "second", "third", "fourth")
 
 def answer_text(answer: Answer) -> str:
     if answer.kind == REFUSED:
-        return refusal_text(answer.reply.refusal) + "\n" + (f"  {answer.detail}\n" if answer.detail else "")
+        return refusal_text(answer.reply.refusal, answer.detail) + "\n"
     rows = _tree_rows(answer) if answer.kind == FITS else _hint_rows(answer)
     return "".join(row + "\n" for row in [answer.kind, *rows])
 
 
-def refusal_text(refusal: int) -> str:
-    return f"refusal {refusal}: {sentence(refusal)}"
+def refusal_text(refusal: int, detail: str = "") -> str:
+    return f"refusal {refusal}: {sentence(refusal)}" + (f"\n  {detail}" if detail else "")
 
 
 def short_text(answer: Answer) -> str:

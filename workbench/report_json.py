@@ -38,7 +38,7 @@ def result(pool_name: str, answer: Answer) -> dict:
 
 
 def not_read(pool_name: str, mistake: Mistake) -> dict:
-    """The result of a pool that never reached the engine."""
+    """The result of a pool that never reached the engine: it, the book or the question has a mistake, or there is no library."""
     whole = {"pool": pool_name, "answer": NOT_READ, "refusal": 0, "message": str(mistake), "facts": 0, "rounds": 0, "unfolding": []}
     return whole | {"hints": _hints(Hints())}
 

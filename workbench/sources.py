@@ -41,7 +41,7 @@ def read_bytes(path: str, most: int = MOST_BYTES) -> bytes:
 
 def source_name(path: str) -> str:
     """How messages call it."""
-    return "standard input" if path == "-" else path
+    return {"-": "standard input", "": "''"}.get(path, path)
 
 
 def _standard_input(most: int) -> bytes:

@@ -16,8 +16,9 @@ from io import BytesIO, StringIO, TextIOWrapper
 from pathlib import Path
 from unittest import mock
 
-from workbench import cli
+from workbench import cli, library
 from workbench.library import ROOT
+from workbench.mistake import Unusable
 from workbench.tests.engine_samples import TWO_WORDS
 from workbench.unfolding import words_to_bytes
 
@@ -57,10 +58,11 @@ class Outside(unittest.TestCase):
     def test_output_closed_or_full(self):
         for redirection in (">&-", "> /dev/full"):
             with self.subTest(redirection=redirection):
-                line = f"{COMMAND} ask {TREE[0]} {TREE[1]} '{TREE[2]}' {redirection}"
-                done = subprocess.run(["sh", "-c", line], cwd=ROOT, capture_output=True, check=False, timeout=60)
-                self.assertEqual(done.returncode, 2)
-                self.assertRegex(done.stderr, rb"^shapes: [^\n]*standard output[^\n]*\n$")
+                for verb in (f"ask {TREE[0]} {TREE[1]} '{TREE[2]}'", "encode book house", "ask --help", "--help"):
+                    line = f"{COMMAND} {verb} {redirection}"
+                    done = subprocess.run(["sh", "-c", line], cwd=ROOT, capture_output=True, check=False, timeout=60)
+                    self.assertEqual(done.returncode, 2)
+                    self.assertRegex(done.stderr, rb"^shapes: [^\n]*standard output[^\n]*\n$")
 
     def test_input_and_error_closed(self):
         for redirection, status in (("<&-", 2), ("2>&- < /dev/null", 2)):
@@ -156,6 +158,51 @@ class Inside(unittest.TestCase):
         self.assertEqual([result["answer"] for result in results], ["fits", "does not fit", "not read"])
         self.assertIn("is on line 1 already", said)
 
+    def test_json_where_nothing_can_be_asked(self):
+        """There is an object with all keys, and each pool has the message."""
+        pools = ["examples/ring.pool", "examples/queue.pool"]
+        for book, question, words in (
+            ("no-such-file", "ring(1)", "there is no such file"),
+            ("examples/mistakes/no-arrow.book", "ring(1)", "is missing before segment"),
+            ("house", "rign(1)", "did you mean ring?"),
+            ("-", "ring(1)", "only one of the files can be -"),
+        ):
+            with self.subTest(book=book, question=question):
+                files = ["-", *pools] if book == "-" else pools
+                status, out, said = self.run_verb("ask", book, *files, question, "--json")
+                whole = json.loads(out)
+                self.assertEqual((status, whole["question"]), (2, None))
+                self.assertEqual([result["answer"] for result in whole["results"]], ["not read"] * len(files))
+                for result in whole["results"]:
+                    self.assertIn(words, result["message"])
+                self.assertEqual(said.count(words), 1)
+
+    def test_no_library(self):
+        """It is looked for once, and not for each pool."""
+        pools = ("examples/ring.pool", "examples/queue.pool")
+        with mock.patch.object(library, "_loaded", side_effect=Unusable("rt is not on the path")) as looked_for:
+            self.assertEqual(self.run_verb("ask", "house", *pools, "ring(0x10)"), (2, b"", "shapes: rt is not on the path\n"))
+            self.assertEqual(looked_for.call_count, 1)
+            status, out, said = self.run_verb("ask", "house", *pools, "ring(0x10)", "--json")
+        self.assertEqual((status, said), (2, "shapes: rt is not on the path\n"))
+        whole = json.loads(out)
+        self.assertEqual(whole["question"], {"predicate": "ring", "values": [16]})
+        self.assertEqual([(result["answer"], result["message"]) for result in whole["results"]], [("not read", "rt is not on the path")] * 2)
+
+    def test_names_that_would_break_a_row(self):
+        pools = []
+        for name in ("new\nline", "esc\x1b[31m", "plain"):
+            pools.append(self.folder / name)
+            pools[-1].write_text("10: 10\n")
+        status, out, _ = self.run_verb("ask", "house", *map(str, pools), "ring(10)")
+        self.assertEqual((status, len(out.splitlines())), (0, 4))
+        self.assertNotIn(b"\x1b", out)
+
+    def test_a_file_for_the_question(self):
+        status, _, said = self.run_verb("ask", "house", "ring(0x10)", "examples/ring.pool")
+        self.assertEqual(status, 2)
+        self.assertIn("examples/ring.pool: this is a file where a question", said)
+
     def test_statuses_of_ask(self):
         fits, does_not, wrong = "examples/ring.pool", "examples/queue.pool", "examples/mistakes/same-address.pool"
         for pools, due in (
@@ -178,6 +225,7 @@ class Inside(unittest.TestCase):
         for verb in (["check", "QUESTION", "examples/ring.pool"], ["draw", "QUESTION", "-o", str(self.folder / "a.dot")]):
             status, out, _ = self.run_verb(verb[0], str(book), "examples/ring.pool", *verb[1:])
             self.assertEqual((status, out[:10]), (2, b"refusal 1:"))
+            self.assertIn(b"\n  byte 4 of the book: ", out)
         self.assertFalse((self.folder / "a.dot").exists())
 
     def test_refused_pool_among_others(self):
@@ -218,12 +266,44 @@ class Inside(unittest.TestCase):
 
     def test_nowhere_to_write(self):
         asked = ("house", "examples/ring.pool", "ring(0x10)")
-        for arguments in (("ask", *asked, "--save"), ("draw", *asked, "-o"), ("encode", "book", "house", "-o")):
+        for arguments in (("draw", *asked, "-o"), ("encode", "book", "house", "-o")):
             for path in ("/no/such/folder/a.dot", str(self.folder), ""):
                 with self.subTest(verb=arguments[0], path=path):
                     status, out, said = self.run_verb(*arguments, path)
                     self.assertEqual((status, out), (2, b""))
                     self.assertTrue(said)
+
+    def test_an_unfolding_that_cannot_be_saved(self):
+        """The answer is shown all the same."""
+        for path in ("/no/such/folder/a", str(self.folder), "", "/dev/full"):
+            with self.subTest(path=path):
+                asked = ("ask", "house", "examples/ring.pool", "ring(0x10)", "--save", path)
+                status, out, said = self.run_verb(*asked)
+                self.assertEqual((status, out[:5]), (2, b"fits\n"))
+                self.assertIn("cannot be written: ", said)
+                status, out, said = self.run_verb(*asked, "--json")
+                self.assertEqual((status, json.loads(out)["results"][0]["answer"]), (2, "fits"))
+                self.assertIn("cannot be written: ", said)
+
+    def test_a_file_is_written_whole_or_not_at_all(self):
+        path = self.folder / "bytes"
+        path.write_bytes(b"before")
+        path.chmod(0o640)
+        with mock.patch.object(os, "replace", side_effect=OSError(28, "No space left on device")):
+            self.assertEqual(self.run_verb("encode", "book", "house", "-o", str(path))[0], 2)
+        self.assertEqual((path.read_bytes(), os.listdir(self.folder)), (b"before", ["bytes"]))
+        self.assertEqual(self.run_verb("encode", "question", "house", "ring(1)", "-o", str(path))[0], 0)
+        self.assertEqual((path.read_bytes().hex(), os.listdir(self.folder)), ("010101000000", ["bytes"]))
+        self.assertEqual(path.stat().st_mode & 0o777, 0o640)
+
+    def test_what_is_behind_a_link_is_written_in_its_place(self):
+        """As /dev/stdout, which leads to where the output of other programs goes too."""
+        file, link = self.folder / "file", self.folder / "link"
+        file.write_bytes(b"before")
+        link.symlink_to(file)
+        self.assertEqual(self.run_verb("encode", "question", "house", "ring(1)", "-o", str(link))[0], 0)
+        self.assertTrue(link.is_symlink())
+        self.assertEqual(file.read_bytes().hex(), "010101000000")
 
     def test_wrong_numbers_of_arguments(self):
         for verb in cli.VERBS:

@@ -51,7 +51,7 @@ class Files(InDirectory):
             ("no/zzz", "no/zzz: there is no such file: see to the directory"),
         ):
             self.assertEqual(self.said(read_bytes, str(self.directory / name)), message)
-        self.assertEqual(self.said(read_bytes, ""), "there is no such file: see to the name")
+        self.assertEqual(self.said(read_bytes, ""), "'': there is no such file: see to the name")
 
     def test_directory(self) -> None:
         (self.directory / "inner").mkdir()
