@@ -34,6 +34,7 @@ class _Picture:
         self.held = {held.record: len(held.places) for held in answer.hints.held}
         self.unreached = {lost.record: lost.by for lost in answer.hints.unreached}
         self.addresses = {record.address for record in self.pool.records}
+        self.led: dict[int, list[int]] = {address: [] for address in self.addresses}
         self.chains = self._chains()
         self.starts = [chain[0] for chain in self.chains]
         self.downward = any(self._branches(record) for record in self.pool.records)
@@ -73,6 +74,7 @@ class _Picture:
         chain = [address]
         for value in self._record(address).fields:
             if value in self.addresses and value not in seen:
+                self.led[address].append(value)
                 chain += self._follow(value, seen)
         return chain
 
@@ -81,9 +83,10 @@ class _Picture:
         return value in chain and chain.index(value) <= chain.index(address)
 
     def _branches(self, record: Record) -> bool:
-        """Whether two fields lead on to different records that do not point back: then the picture grows downward, as trees do."""
+        """Whether two fields lead on to different records: then the picture grows downward, as trees do. One that points back counts only
+        where the reader comes to it first from here, as to a child that holds its parent; in a doubly linked list that is one."""
         onward = {value for value in record.fields if value in self.addresses and record.address not in self._record(value).fields}
-        return len(onward - {record.address}) > 1
+        return len(onward - {record.address}) > 1 or len(self.led[record.address]) > 1
 
     # Boxes.
 
@@ -163,7 +166,8 @@ class _Picture:
             if value == 0:
                 rows += self._nil(record.address, i, start)
             elif self._goes_back(record.address, value):
-                rows.append(f"  {self._back(start, value, i == len(record.fields))}{self._stroke(value)}")
+                back = self._to_itself(record, i) if value == record.address else self._back(start, value, i == len(record.fields))
+                rows.append(f"  {back}{self._stroke(value)}")
             else:
                 # Graphviz draws heavier arrows straighter: simple lists then stand in one row.
                 weight = 8 if len(record.fields) == 1 else 1
@@ -179,6 +183,12 @@ class _Picture:
         if self.downward:
             return f"{start} -> {self._target(value)}"
         return f"{start}{':s' * is_last} -> {self._target(value)}:s"
+
+    def _to_itself(self, record: Record, field: int) -> str:
+        """On the field's side of the box: Graphviz itself would go through the box or across the label of a value."""
+        last, first, between = (("e", "e"), ("w", "w"), ("s", "e")) if self.downward else (("s", "s"), ("n", "n"), ("e", "s"))
+        out, back = last if field == len(record.fields) else first if field == 1 else between
+        return f"r{record.address}:f{field}:{out} -> {self._target(record.address)}:{back}"
 
     def _nil(self, address: int, field: int, start: str) -> list[str]:
         mark, side = f"nil{address}_{field}", "n" if self.downward else "w"

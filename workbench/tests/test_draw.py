@@ -24,6 +24,8 @@ DRAWN = {
     "tree": ("tree.book", "tree.pool", "tree(10)"),
     "dll": ("dll.book", "dll.pool", "dll(0x100, nil, 0x130, nil)"),
     "dll-broken": ("dll.book", "dll-broken.pool", "dll(0x100, nil, 0x130, nil)"),
+    "parents": ("parents.book", "parents.pool", "tree(10, nil)"),
+    "rings": ("rings.book", "rings.pool", "rings(1)"),
     "queue": ("house.book", "queue.pool", "queue_and_free(0x10, 0x40)"),
     "ring": ("house.book", "ring.pool", "ring(0x10)"),
     "hung-twice": ("house.book", "hung-twice.pool", "queue_and_free(0x10, 0x40)"),
@@ -58,6 +60,23 @@ class Said(unittest.TestCase):
     def test_no_record_and_no_hints(self):
         self.assertIn("the pool has no record", dot_text(ask(asked(H, Pool(()), Question(0, (5, 5))))))
         self.assertIn("no hints", dot_text(ask(asked(H, Pool((Record(1, (0,)),)), Question(0, (1, 1))))))
+
+    def test_a_record_that_holds_itself(self):
+        """The arrow leaves and comes in on one side of the box, and does not go through it."""
+        for fields, due in (
+            ((1,), ["r1:f1:s -> r1:head:s"]),
+            ((1, 1, 0), ["r1:f1:n -> r1:head:n", "r1:f2:e -> r1:head:s"]),
+            ((1, 2, 3, 1), ["r1:f1:w -> r1:head:w", "r1:f4:e -> r1:head:e"]),
+        ):
+            with self.subTest(fields=fields):
+                text = dot_text(ask(asked(H, Pool((Record(1, fields), Record(2, ()), Record(3, ()))), Question(1, (1,)))))
+                for arrow in due:
+                    self.assertIn(f"  {arrow}", text)
+
+    def test_trees_grow_downward_and_lists_to_the_right(self):
+        for name, direction in (("tree", "TB"), ("parents", "TB"), ("dll", "LR"), ("dll-broken", "LR"), ("ring", "LR")):
+            with self.subTest(name=name):
+                self.assertIn(f"rankdir={direction}", dot_text(answered(name)))
 
     def test_formats(self):
         self.assertEqual([format_of(name) for name in ("a.svg", "b/c.PNG", "d.e.dot")], ["svg", "png", "dot"])
