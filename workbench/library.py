@@ -1,6 +1,7 @@
 """The proved library, called from Python. It is made of the crates where it is missing or older than their code."""
 
 import ctypes
+import errno
 import fcntl
 import os
 import shutil
@@ -89,9 +90,9 @@ def _loaded() -> ctypes.CDLL:
 
 
 def _declared(path: Path) -> ctypes.CDLL:
-    if _is_cut(path):
-        raise Unusable("cannot be used: it is cut short; delete it, and it is made again", shown(path))
     try:
+        if _is_cut(path):
+            raise OSError("it is cut short")
         library = ctypes.CDLL(str(path))
         library.shapes_decide.argtypes = BLOCKS + [WORDS, ctypes.c_size_t] * 2 + [WORDS] * 4
         library.shapes_check.argtypes = BLOCKS + [WORDS, ctypes.c_size_t, WORDS]
@@ -136,8 +137,12 @@ def make() -> None:
 @contextmanager
 def _alone() -> Iterator[int]:
     """Two at once would prove into the same folders, and each could find halves of the other's there: the second one waits."""
-    LIBRARY.parent.mkdir(exist_ok=True)
-    lock = os.open(LIBRARY.parent, os.O_RDONLY)
+    folder = LIBRARY.parent
+    folder.mkdir(exist_ok=True)
+    # rt would fail after minutes, and not say why.
+    if not os.access(folder, os.W_OK):
+        raise PermissionError(errno.EACCES, os.strerror(errno.EACCES), str(folder))
+    lock = os.open(folder, os.O_RDONLY)
     try:
         try:
             fcntl.flock(lock, fcntl.LOCK_EX | fcntl.LOCK_NB)

@@ -142,13 +142,22 @@ class Making(unittest.TestCase):
     def test_nowhere_to_make_it(self):
         self.tool("rt", "true")
         self.tool("gcc", "true")
+        reached = os.access
+        closed = mock.patch.object(os, "access", lambda path, mode: mode != os.W_OK and reached(path, mode))
+        with closed, self.assertRaisesRegex(Unusable, "cannot be made: Permission denied"):
+            library.make()
         (self.root / "target").rmdir()
         (self.root / "target").write_text("")
-        with self.assertRaisesRegex(Unusable, "cannot be made: "):
+        with self.assertRaisesRegex(Unusable, "cannot be made: File exists"):
             library.make()
+        self.assertEqual(self.said.getvalue(), "")
 
     def test_no_library(self):
         self.library.write_text("rubbish")
+        with self.assertRaisesRegex(Unusable, "delete it"):
+            library._declared(self.library)
+        self.library.unlink()
+        self.library.mkdir()
         with self.assertRaisesRegex(Unusable, "delete it"):
             library._declared(self.library)
 
