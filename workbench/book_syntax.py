@@ -321,4 +321,5 @@ def _refuse_no_variable(tokens: Tokens, token: Token) -> None:
 
 
 def _number(tokens: Tokens, token: Token) -> Mistake:
-    return tokens.mistake(f"{shown(token)} is a number, and rules have names and nil only: write a name", token)
+    instead = "a name" if token.text.strip("0xX") else "nil"
+    return tokens.mistake(f"{shown(token)} is a number, and rules have names and nil only: write {instead}", token)

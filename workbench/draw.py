@@ -18,6 +18,7 @@ HELD = "#F6D28B"
 UNREACHED = "#FFFFFF"
 LOOSE = "#C04A00"
 INK = "#222222"
+MOST_LABEL = 100
 
 
 def dot_text(answer: Answer) -> str:
@@ -92,10 +93,10 @@ class _Picture:
 
     def _box(self, record: Record) -> str:
         fill, border, word = self._mark(record.address)
-        head = f"<B>{escape(self.names.value(record.address))}</B>"
+        head = f"<B>{_label(self.names.value(record.address))}</B>"
         if word:
-            head += f'<BR/><FONT POINT-SIZE="9">{escape(word)}</FONT>'
-        fields = [f'<TD PORT="f{i}" BGCOLOR="white">{escape(self.names.value(value))}</TD>' for i, value in enumerate(record.fields, 1)]
+            head += f'<BR/><FONT POINT-SIZE="9">{_label(word)}</FONT>'
+        fields = [f'<TD PORT="f{i}" BGCOLOR="white">{_label(self.names.value(value))}</TD>' for i, value in enumerate(record.fields, 1)]
         rows = self._rows(f'PORT="head" BGCOLOR="{fill}">{head}</TD>', fields)
         table = "".join(f"<TR>{row}</TR>" for row in rows)
         return f'  r{record.address} [label=<<TABLE CELLBORDER="1" CELLSPACING="0" CELLPADDING="5" {border}>{table}</TABLE>>]'
@@ -128,7 +129,7 @@ class _Picture:
         arguments = self._argument_names()
         for value in dict.fromkeys(filter(None, self.question.values)):
             here = [name for name, other in zip(arguments, self.question.values) if other == value]
-            words = escape(" = ".join([*here, self.names.value(value)]))
+            words = _label(" = ".join([*here, self.names.value(value)]))
             rows.append(f"  q{value} [label=<<I>{words}</I>>]")
             rows.append(f"  {self._entry_arrow(value)}")
         return rows
@@ -155,7 +156,7 @@ class _Picture:
         values = {value for record in self.pool.records for value in record.fields} | set(self.question.values)
         style = f'shape=box, style=dashed, color="{LOOSE}", fontcolor="{LOOSE}", margin="0.08,0.04", height=0.2'
         return [
-            f'  loose{value} [label=<{escape(self.names.value(value))}<BR/><FONT POINT-SIZE="9">no record</FONT>>, {style}]'
+            f'  loose{value} [label=<{_label(self.names.value(value))}<BR/><FONT POINT-SIZE="9">no record</FONT>>, {style}]'
             for value in sorted(values - self.addresses - {0})
         ]
 
@@ -217,7 +218,7 @@ class _Picture:
         verdict = "fits" if self.fits else "does not fit"
         # The title stands in the column of the words, where it does not widen that of the swatches.
         rows = ['<TR><TD HEIGHT="8"></TD><TD></TD></TR>']
-        rows.append(f'<TR><TD></TD><TD ALIGN="LEFT"><B>{escape(self.names.asked())}</B> {verdict}</TD></TR>')
+        rows.append(f'<TR><TD></TD><TD ALIGN="LEFT"><B>{_label(self.names.asked())}</B> {verdict}</TD></TR>')
         rows += [_legend_row(*row) for row in (self._taken_legend() if self.fits else self._hint_legend())]
         return f'<<TABLE BORDER="0" CELLBORDER="0" CELLSPACING="4" CELLPADDING="2">{"".join(rows)}</TABLE>>'
 
@@ -242,7 +243,7 @@ class _Picture:
 
 def _legend_row(fill: str, border: str, words: str) -> str:
     swatch = f'<TD {border} BGCOLOR="{fill}" WIDTH="26" HEIGHT="14" FIXEDSIZE="TRUE"></TD>'
-    return f'<TR>{swatch}<TD ALIGN="LEFT">{escape(words)}</TD></TR>'
+    return f'<TR>{swatch}<TD ALIGN="LEFT">{_label(words)}</TD></TR>'
 
 
 def _ground(downward: bool) -> str:
@@ -257,6 +258,11 @@ def _ground(downward: bool) -> str:
 def _stroke_table(width: int, height: int) -> str:
     cell = f'<TD FIXEDSIZE="TRUE" WIDTH="{width}" HEIGHT="{height}" BGCOLOR="{INK}"></TD>'
     return f'<TABLE BORDER="0" CELLBORDER="0" CELLSPACING="0" CELLPADDING="0"><TR>{cell}</TR></TABLE>'
+
+
+def _label(text: str) -> str:
+    """Graphviz takes no label of more than some thousand characters, and a picture has no room for them."""
+    return escape(text if len(text) <= MOST_LABEL else text[: MOST_LABEL - 3] + "...")
 
 
 FORMATS = ("svg", "png", "dot")

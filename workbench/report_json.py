@@ -19,14 +19,14 @@ def report(book_name: str, book: Book | None, question: Question | None, results
     asked = None
     if book and question:
         asked = {"predicate": book.predicates[question.predicate].name, "values": list(question.values)}
-    whole = {"format": FORMAT, "book": book_name, "question": asked, "results": results}
+    whole = {"format": FORMAT, "book": _unicode(book_name), "question": asked, "results": results}
     return json.dumps(whole, indent=2, ensure_ascii=False) + "\n"
 
 
 def result(pool_name: str, answer: Answer) -> dict:
     refusal = answer.reply.refusal
     return {
-        "pool": pool_name,
+        "pool": _unicode(pool_name),
         "answer": answer.kind,
         "refusal": refusal,
         "message": "\n".join(filter(None, (sentence(refusal), answer.detail))) if refusal else "",
@@ -39,8 +39,13 @@ def result(pool_name: str, answer: Answer) -> dict:
 
 def not_read(pool_name: str, mistake: Mistake) -> dict:
     """The result of a pool that never reached the engine: it, the book or the question has a mistake, or there is no library."""
-    whole = {"pool": pool_name, "answer": NOT_READ, "refusal": 0, "message": str(mistake), "facts": 0, "rounds": 0, "unfolding": []}
+    whole = {"pool": _unicode(pool_name), "answer": NOT_READ, "refusal": 0, "message": str(mistake), "facts": 0, "rounds": 0, "unfolding": []}
     return whole | {"hints": _hints(Hints())}
+
+
+def _unicode(name: str) -> str:
+    """The name of a file may have bytes that are no Unicode, and many readers of JSON refuse what Python has for them."""
+    return name.encode(errors="surrogateescape").decode(errors="replace")
 
 
 def _unfolding(answer: Answer) -> list[dict]:

@@ -74,6 +74,7 @@ NAMES = [
     ("p { ‸emp -> a => p(a) }", "emp is a reserved word and no name of a variable: write another name"),
     ("p { ‸nil -> x => p(x) }", "nil is no address: the address of a cell must be a name"),
     ("p { ‸10 -> x => p(x) }", "10 is a number, and rules have names and nil only: write a name"),
+    ("p { a = ‸0 => p(a) }", "0 is a number, and rules have names and nil only: write nil"),
     ("p { a = ‸0x1F => p(a) }", "0x1F is a number, and rules have names and nil only: write a name"),
     ("p { ‸segmnt(a) => p(a) } ; segment(a) { }", "there is no predicate segmnt in this book: did you mean segment?"),
     ("p { emp => p(a) } ; ‸@", "the character @ (U+0040) has no meaning here: take it away; names have letters, digits, _ and '"),

@@ -109,6 +109,8 @@ class Outside(unittest.TestCase):
         done = shapes("ask", "house", b"\xff\xfe.pool", "ring(1)")
         self.assertEqual((done.returncode, done.stdout), (2, b""))
         self.assertNotIn(b"Traceback", done.stderr)
+        done = shapes("ask", "house", b"\xff.pool", "ring(1)", "--json")
+        self.assertEqual(json.loads(done.stdout)["results"][0]["pool"], "\ufffd.pool")
 
 
 class Inside(unittest.TestCase):

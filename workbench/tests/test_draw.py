@@ -9,11 +9,13 @@ from pathlib import Path
 from unittest import mock
 
 from workbench.asking import Answer, ask
+from workbench.book_text import parse_book
 from workbench.operands import read_asked
 from workbench.draw import dot_text, format_of, picture
 from workbench.library import ROOT
 from workbench.mistake import Mistake
 from workbench.model import Pool, Question, Record
+from workbench.pool_text import parse_pool
 from workbench.tests.engine_samples import H
 from workbench.tests.test_render import asked
 
@@ -104,6 +106,12 @@ class Laid(unittest.TestCase):
 
     def test_png(self):
         self.assertTrue(picture(dot_text(answered("ring")), "png").startswith(b"\x89PNG"))
+
+    def test_very_long_names_and_numbers(self):
+        name = "p" * 30_000
+        book = parse_book(f"{name} {{ a -> b => {name}(a) }}", "long")
+        pool = parse_pool(f"0x{'0' * 30_000}1: 2", "long")
+        self.laid_out_without_a_word(dot_text(ask(asked(book, pool, Question(0, (1,))))))
 
     def test_no_dot(self):
         with self.assertRaisesRegex(Mistake, "could not lay out"):
