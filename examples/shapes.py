@@ -15,7 +15,10 @@ def lent(*blocks: bytes) -> list:
     return [part for block in blocks for part in ((c_uint8 * len(block))(*block), c_size_t(len(block)))]
 
 
-library = CDLL(str(Path(__file__).resolve().parent.parent / "target" / "libshapes.so"))
+path = Path(__file__).resolve().parent.parent / "target" / "libshapes.so"
+if not path.exists():
+    raise SystemExit("target/libshapes.so is not there yet: the first ./shapes ask makes it")
+library = CDLL(str(path))
 library.shapes_decide.restype = library.shapes_check.restype = c_uint64
 
 table, space = (c_uint64 * LINES)(), (c_uint64 * (3 * LINES))()

@@ -39,6 +39,16 @@ class Outside(unittest.TestCase):
             done = subprocess.run([COMMAND, "ask", *files, "segment(10, 10)"], cwd=folder, capture_output=True, check=False)
         self.assertEqual((done.returncode, done.stdout.splitlines()[0], done.stderr), (0, b"fits", b""))
 
+    def test_by_way_of_a_link_and_with_python_set_otherwise(self):
+        with tempfile.TemporaryDirectory() as folder:
+            link = Path(folder) / "link"
+            link.symlink_to(COMMAND)
+            for name, value in (("PYTHONSAFEPATH", "1"), ("PYTHONOPTIMIZE", "2"), ("PYTHONIOENCODING", "ascii"), ("LC_ALL", "C")):
+                with self.subTest(name=name):
+                    arguments = [str(link), "ask", "house", str(ROOT / "examples/ring.pool"), "ring(0x10)"]
+                    done = subprocess.run(arguments, cwd=folder, env=os.environ | {name: value}, capture_output=True, check=False, timeout=60)
+                    self.assertEqual((done.returncode, done.stdout[:5], done.stderr), (0, b"fits\n", b""))
+
     def test_closed_pipe_keeps_the_status_of_the_answer(self):
         for question, status in (("tree(10)", 0), ("tree(20)", 1)):
             read, write = os.pipe()
