@@ -1,5 +1,6 @@
 """The verb `ask`: one pool with its grounds, or several with a row for each."""
 
+from argparse import ArgumentParser
 from collections.abc import Callable
 
 from workbench import report_json
@@ -13,17 +14,21 @@ from workbench.status import FAULT, NO, YES
 from workbench.unfolding import words_to_bytes
 
 
-def ask_verb(arguments: list[str]) -> int:
+def _parser() -> ArgumentParser:
     made = parser(
         "ask",
         "BOOK POOL [POOL ...] QUESTION [--json] [--save FILE]",
         "Says whether a pool fits: with an unfolding where it does, with hints on where to look where it does not.\n"
-        "Status 0: every pool fits; 1: some do not; 2: a refusal, or something cannot be read.",
+        "Status 0: every pool fits; 1: some do not; 2: a refusal, or something cannot be read or written.",
         "./shapes ask examples/segment.book examples/segment.pool 'segment(10, nil)'",
     )
     made.add_argument("--json", action="store_true", help="print JSON, for other programs")
     made.add_argument("--save", metavar="FILE", help="write the unfolding of the one pool to FILE, which `check` takes")
-    options = parsed(made, arguments, 3, None)
+    return made
+
+
+def ask_verb(arguments: list[str]) -> int:
+    options = parsed(_parser(), arguments, 3, None)
     book_file, *pool_files, question_text = options.operands
     book = question = None
     try:

@@ -165,6 +165,7 @@ class Making(unittest.TestCase):
 class Loading(unittest.TestCase):
     def test_a_library_cut_short(self):
         """Of most lengths the system ends the program that loads it."""
+        library._loaded()  # makes it where it is missing
         whole = library.LIBRARY.read_bytes()
         with tempfile.TemporaryDirectory() as folder:
             path = Path(folder) / "libshapes.so"
