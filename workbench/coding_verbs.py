@@ -10,6 +10,8 @@ from workbench.wording import nearest
 
 ENCODED = "book BOOK | snapshot POOL | question BOOK QUESTION | bench BOOK POOL QUESTION"
 DECODED = "book FILE | snapshot FILE | question BOOK FILE | bench FILE"
+# What -o may be for it.
+STANDARD_OUTPUT = (None, "-")
 
 
 def encode_verb(arguments: list[str]) -> int:
@@ -24,7 +26,7 @@ def encode_verb(arguments: list[str]) -> int:
     made.add_argument("--hex", action="store_true", help="write base sixteen as text instead of bytes")
     options = parsed(made, arguments, 2, 4)
     data = _of_kind(made, options.operands, coding.ENCODERS)
-    as_hex = options.hex or (options.o is None and is_terminal())
+    as_hex = options.hex or (options.o in STANDARD_OUTPUT and is_terminal())
     _write_out(options.o, coding.hex_text(data).encode() if as_hex else data)
     return YES
 
@@ -56,7 +58,7 @@ def _of_kind(made: argparse.ArgumentParser, operands: list[str], kinds: dict):
 
 
 def _write_out(path: str | None, data: bytes) -> None:
-    if path is None:
+    if path in STANDARD_OUTPUT:
         say_bytes(data)
     else:
         write_file(path, data)

@@ -71,8 +71,14 @@ def read_asked(book_file: str, pool_file: str, question_text: str) -> Asked:
 
 
 def write_file(path: str, data: bytes) -> None:
+    if path == "-":
+        raise Mistake("- is no file to write to: name one, or ./- if that is its name")
     try:
-        _write_whole(path, data) if _is_replaceable(path) else _write(path, data)
+        if _is_replaceable(path):
+            _replace(path, data)
+        else:
+            with open(path, "wb") as file:
+                file.write(data)
     except FileNotFoundError:
         raise Mistake("cannot be written: there is no such directory", source_name(path)) from None
     except (OSError, ValueError) as fault:
@@ -86,19 +92,16 @@ def _is_replaceable(path: str) -> bool:
     return bool(name) and free and os.access(folder or ".", os.W_OK)
 
 
-def _write_whole(path: str, data: bytes) -> None:
+def _replace(path: str, data: bytes) -> None:
     """In one step: where the disk is full there is no half of it, and what was there before stays."""
     part = os.path.join(os.path.dirname(path), f".shapes.{os.getpid()}.part")
+    file = open(part, "xb")
     try:
-        _write(part, data)
+        with file:
+            file.write(data)
         if os.path.exists(path):
             os.chmod(part, os.stat(path).st_mode & 0o7777)
         os.replace(part, path)
-    finally:
-        if os.path.lexists(part):
-            os.unlink(part)
-
-
-def _write(path: str, data: bytes) -> None:
-    with open(path, "wb") as file:
-        file.write(data)
+    except BaseException:
+        os.unlink(part)
+        raise

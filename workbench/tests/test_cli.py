@@ -308,6 +308,13 @@ class Inside(unittest.TestCase):
         self.assertEqual((path.read_bytes().hex(), os.listdir(self.folder)), ("010101000000", ["bytes"]))
         self.assertEqual(path.stat().st_mode & 0o777, 0o640)
 
+    def test_a_line_for_the_name_of_a_file(self):
+        self.assertEqual(self.run_verb("encode", "question", "house", "ring(1)", "-o", "-")[:2], (0, bytes.fromhex("010101000000")))
+        status, out, said = self.run_verb("ask", "house", "examples/ring.pool", "ring(0x10)", "--save", "-")
+        self.assertEqual((status, out[:5]), (2, b"fits\n"))
+        self.assertIn("name one", said)
+        self.assertFalse(os.path.exists("-"))
+
     def test_what_is_behind_a_link_is_written_in_its_place(self):
         """As /dev/stdout, which leads to where the output of other programs goes too."""
         file, link = self.folder / "file", self.folder / "link"
