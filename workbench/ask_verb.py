@@ -6,10 +6,10 @@ from collections.abc import Callable
 from workbench import report_json
 from workbench.asking import DOES_NOT_FIT, FITS, Answer, Asked, ask
 from workbench.mistake import Mistake, Unusable, printable
-from workbench.operands import one_standard_input, parsed, parser, read_question, write_file
-from workbench.output import complain, say
+from workbench.operands import one_standard_input, parsed, parser, read_noted_book, read_question
+from workbench.output import complain, say, write_file
 from workbench.render import answer_text, short_text, sum_text
-from workbench.sources import read_book, read_pool, source_name
+from workbench.sources import read_pool, source_name
 from workbench.status import FAULT, NO, YES
 from workbench.unfolding import words_to_bytes
 
@@ -35,7 +35,7 @@ def ask_verb(arguments: list[str]) -> int:
         if options.save and len(pool_files) > 1:
             raise Mistake("--save writes the unfolding of one pool: name one pool")
         one_standard_input((book_file, *pool_files))
-        book, book_bytes, _ = read_book(book_file)
+        book, book_bytes, _ = read_noted_book(book_file)
         question, question_bytes = read_question(question_text, book)
 
         def answer_about(pool_file: str) -> Answer:

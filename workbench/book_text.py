@@ -72,6 +72,7 @@ def _rule(tokens: Tokens, case: Case, predicate: int, numbers: dict[str, int], p
         tuple(Cell(term(address), tuple(map(term, fields))) for address, fields in case.cells),
         tuple(Call(numbers[name.text], tuple(map(term, terms))) for name, terms in case.calls),
         case.start.line,
+        tuple(token.text for token in case.listed),
     )
 
 

@@ -3,8 +3,8 @@
 import argparse
 
 from workbench import coding
-from workbench.operands import one_standard_input, parsed, parser, write_file
-from workbench.output import is_terminal, say_bytes
+from workbench.operands import one_standard_input, parsed, parser
+from workbench.output import is_terminal, say_bytes, write_file
 from workbench.status import YES
 from workbench.wording import nearest
 

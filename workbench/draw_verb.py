@@ -2,8 +2,8 @@
 
 from workbench.asking import REFUSED, ask
 from workbench.draw import dot_text, format_of, picture
-from workbench.operands import parsed, parser, read_asked, write_file
-from workbench.output import say
+from workbench.operands import parsed, parser, read_asked
+from workbench.output import say, write_file
 from workbench.render import answer_text
 from workbench.status import FAULT, YES
 

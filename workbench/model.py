@@ -1,7 +1,7 @@
 """Books, pools and questions, once read: what text and bytes have in common. A value is a number, and a term the number of one of its
 rule's variables or NIL."""
 
-from dataclasses import dataclass
+from dataclasses import dataclass, field
 
 # The format's limits (docs/FORMAT.md).
 MOST_PREDICATES = 8
@@ -47,7 +47,8 @@ class Call:
 
 @dataclass(frozen=True)
 class Rule:
-    """`variables` are the names, the head's arguments first; `line` is the rule's line in the text, 0 where there is none."""
+    """`variables` are the names, the head's arguments first; `line` is the rule's line in the text, 0 where there is none, and `listed`
+    are the names after its `exists`, which make no other rule of it."""
 
     predicate: int
     variables: tuple[str, ...]
@@ -55,6 +56,7 @@ class Rule:
     cells: tuple[Cell, ...] = ()
     calls: tuple[Call, ...] = ()
     line: int = 0
+    listed: tuple[str, ...] = field(default=(), compare=False)
 
 
 @dataclass(frozen=True)

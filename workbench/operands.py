@@ -5,12 +5,13 @@ import os
 from collections.abc import Sequence
 
 from workbench.asking import Asked
-from workbench.mistake import Mistake
+from workbench.mistake import Mistake, printable
 from workbench.model import Book, Question
-from workbench.output import say
+from workbench.notes import notes
+from workbench.output import say, say_wrong
 from workbench.question_bytes import encode_question
 from workbench.question_text import parse_question
-from workbench.sources import read_book, read_pool, source_name
+from workbench.sources import read_book, read_pool
 
 OPERANDS = """BOOK is a file with rules, as text or as bytes; the word house stands for the house book. POOL is a file with records, as
 text or as a snapshot's bytes. One of the files may be -, for standard input. A QUESTION is text, such as 'segment(10, nil)'."""
@@ -49,6 +50,14 @@ def one_standard_input(files: Sequence[str]) -> None:
         raise Mistake("only one of the files can be -, since standard input can be read only once: give the others as files")
 
 
+def read_noted_book(file: str) -> tuple[Book | None, bytes, str]:
+    """The book, and on standard error what in it may be a slip."""
+    book, data, name = read_book(file)
+    for note in notes(book, name) if book else ():
+        say_wrong(f"{printable(note)}\n")
+    return book, data, name
+
+
 def read_question(text: str, book: Book | None) -> tuple[Question | None, bytes]:
     """No question where the bytes of the book are not well-formed: the engine refuses the book before it looks at the question."""
     if book is None:
@@ -64,44 +73,7 @@ def read_question(text: str, book: Book | None) -> tuple[Question | None, bytes]
 
 def read_asked(book_file: str, pool_file: str, question_text: str) -> Asked:
     one_standard_input((book_file, pool_file))
-    book, book_bytes, _ = read_book(book_file)
+    book, book_bytes, _ = read_noted_book(book_file)
     question, question_bytes = read_question(question_text, book)
     pool, pool_bytes, _ = read_pool(pool_file)
     return Asked(book_bytes, pool_bytes, question_bytes, book, pool, question)
-
-
-def write_file(path: str, data: bytes) -> None:
-    if path == "-":
-        raise Mistake("- is no file to write to: name one, or ./- if that is its name")
-    try:
-        if _is_replaceable(path):
-            _replace(path, data)
-        else:
-            with open(path, "wb") as file:
-                file.write(data)
-    except FileNotFoundError:
-        raise Mistake("cannot be written: there is no such directory", source_name(path)) from None
-    except (OSError, ValueError) as fault:
-        raise Mistake(f"cannot be written: {getattr(fault, 'strerror', None) or fault}", source_name(path)) from None
-
-
-def _is_replaceable(path: str) -> bool:
-    """Whether a new file can take this one's place: no device, no link, nothing that may not be written."""
-    folder, name = os.path.split(path)
-    free = not os.path.lexists(path) or (os.path.isfile(path) and not os.path.islink(path) and os.access(path, os.W_OK))
-    return bool(name) and free and os.access(folder or ".", os.W_OK)
-
-
-def _replace(path: str, data: bytes) -> None:
-    """In one step: where the disk is full there is no half of it, and what was there before stays."""
-    part = os.path.join(os.path.dirname(path), f".shapes.{os.getpid()}.part")
-    file = open(part, "xb")
-    try:
-        with file:
-            file.write(data)
-        if os.path.exists(path):
-            os.chmod(part, os.stat(path).st_mode & 0o7777)
-        os.replace(part, path)
-    except BaseException:
-        os.unlink(part)
-        raise

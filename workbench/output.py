@@ -1,9 +1,11 @@
-"""What is printed: answers to standard output, complaints to standard error. Neither a closed pipe nor a full disk ends in a traceback."""
+"""What is printed and written: answers to standard output or to a file, complaints to standard error. Neither a closed pipe nor a full disk
+ends in a traceback, and a file is written whole or not at all."""
 
 import os
 import sys
 
 from workbench.mistake import Mistake, printable
+from workbench.sources import source_name
 
 
 def say(text: str) -> None:
@@ -59,3 +61,40 @@ def flush() -> None:
             stream.flush()
         except OSError:
             _to_nowhere(stream)
+
+
+def write_file(path: str, data: bytes) -> None:
+    if path == "-":
+        raise Mistake("- is no file to write to: name one, or ./- if that is its name")
+    try:
+        if _is_replaceable(path):
+            _replace(path, data)
+        else:
+            with open(path, "wb") as file:
+                file.write(data)
+    except FileNotFoundError:
+        raise Mistake("cannot be written: there is no such directory", source_name(path)) from None
+    except (OSError, ValueError) as fault:
+        raise Mistake(f"cannot be written: {getattr(fault, 'strerror', None) or fault}", source_name(path)) from None
+
+
+def _is_replaceable(path: str) -> bool:
+    """Whether a new file can take this one's place: no device, no link, nothing that may not be written."""
+    folder, name = os.path.split(path)
+    free = not os.path.lexists(path) or (os.path.isfile(path) and not os.path.islink(path) and os.access(path, os.W_OK))
+    return bool(name) and free and os.access(folder or ".", os.W_OK)
+
+
+def _replace(path: str, data: bytes) -> None:
+    """In one step: where the disk is full there is no half of it, and what was there before stays."""
+    part = os.path.join(os.path.dirname(path), f".shapes.{os.getpid()}.part")
+    file = open(part, "xb")
+    try:
+        with file:
+            file.write(data)
+        if os.path.exists(path):
+            os.chmod(part, os.stat(path).st_mode & 0o7777)
+        os.replace(part, path)
+    except BaseException:
+        os.unlink(part)
+        raise
