@@ -30,6 +30,11 @@ def shapes(*arguments: str, given: bytes = b"", **more) -> subprocess.CompletedP
     return subprocess.run([COMMAND, *arguments], cwd=ROOT, input=given, capture_output=True, check=False, timeout=60, **more)
 
 
+def heed_ctrl_c() -> None:
+    """What was started in the background ignores it, and so would all that the tests start."""
+    signal.signal(signal.SIGINT, signal.SIG_DFL)
+
+
 class Outside(unittest.TestCase):
     """In a process of its own."""
 
@@ -83,9 +88,9 @@ class Outside(unittest.TestCase):
                 self.assertNotIn(b"Traceback", done.stderr)
 
     def test_stopped(self):
-        child = subprocess.Popen(
-            [COMMAND, "ask", "house", "-", "ring(1)"], cwd=ROOT, stdin=subprocess.PIPE, stdout=subprocess.PIPE, stderr=subprocess.PIPE
-        )
+        arguments = [COMMAND, "ask", "house", "-", "ring(1)"]
+        pipes = dict.fromkeys(("stdin", "stdout", "stderr"), subprocess.PIPE)
+        child = subprocess.Popen(arguments, cwd=ROOT, preexec_fn=heed_ctrl_c, **pipes)
         time.sleep(2)  # so that it waits for standard input by then
         child.send_signal(signal.SIGINT)
         said = child.communicate(timeout=60)
@@ -100,7 +105,7 @@ class Outside(unittest.TestCase):
             f"sys.exit(cli.main(['ask', *{TREE!r}]))\n"
         )
         started = time.monotonic()
-        done = subprocess.run([sys.executable, "-c", code], cwd=ROOT, capture_output=True, check=False, timeout=60)
+        done = subprocess.run([sys.executable, "-c", code], cwd=ROOT, preexec_fn=heed_ctrl_c, capture_output=True, check=False, timeout=60)
         self.assertEqual((done.returncode, done.stdout, done.stderr), (2, b"", b"shapes: stopped\n"))
         self.assertLess(time.monotonic() - started, 15)
 
