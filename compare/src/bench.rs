@@ -69,8 +69,8 @@ pub fn measured_proved(input: &Input) -> u64 {
     desk::decide(&input.book, &input.snapshot, &input.question)
 }
 
-/// The library `shapes`, on zeros of the same sizes. What lends them is counted
-/// apart: see `--once`.
+/// The library `shapes`, on memory that its caller makes: to make it is not
+/// counted.
 #[inline(never)]
 fn measured_lent(input: &Input, table: &mut [u64], space: &mut [u64]) -> u64 {
     lent::decide_on(input, table, space).0
