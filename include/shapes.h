@@ -10,7 +10,7 @@
  *   4 the book is too long                           8 the snapshot is too long
  *   9 the question is not one about this book
  * Of shapes_decide alone:
- *  10 the table has 0 or more than 65,535 words, or the space is not three times as long
+ *  10 the memory does not fit together: a table is 1 to 65,535 words long, and the space three times that
  *  11 there are more facts than the table has words
  * README.md says what to do about each, docs/FORMAT.md has the bytes of book, snapshot and question and the words of table and space.
  *

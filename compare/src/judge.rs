@@ -123,8 +123,8 @@ fn same_words(expected: &[u64], given: &[u64]) -> Result<(), String> {
     ))
 }
 
-/// What the engine's unfolding has beyond what the check asks: no fact twice,
-/// and each line but the last called by a later one.
+/// What the engine's unfolding has beyond what the check asks: its facts differ,
+/// and a later line calls every line before the last.
 fn unfolding(input: &Input, words: &[u64]) -> Result<Vec<Line>, String> {
     let lines = lines_of_words(words);
     if lines.is_empty() {
