@@ -3,13 +3,13 @@
  * Each call returns the refusal, 0 for none. The other numbers of its reply go through the pointers at its end, which are written on every
  * way out and are 0 on a refusal.
  *
- * Refusals of both calls, the first fault that reading meets:
+ * Refusals of every call, the first fault that reading meets:
  *   1 the book is too short                          5 the snapshot is too short
  *   2 a count in the book is out of its range        6 a count in the snapshot is out of its range
  *   3 a byte in the book is no name                  7 an address is 0, or the addresses do not ascend
  *   4 the book is too long                           8 the snapshot is too long
  *   9 the question is not one about this book
- * Of shapes_decide alone:
+ * Of shapes_decide and shapes_part alone:
  *  10 the memory does not fit together: a table is 1 to 65,535 words long, and the space three times that
  *  11 there are more facts than the table has words
  * README.md says what to do about each, docs/FORMAT.md has the bytes of book, snapshot and question and the words of table and space.
@@ -39,5 +39,20 @@ uint64_t shapes_decide(const uint8_t *book, size_t book_len, const uint8_t *snap
 uint64_t shapes_check(const uint8_t *book, size_t book_len, const uint8_t *snapshot, size_t snapshot_len,
                       const uint8_t *question, size_t question_len,
                       const uint64_t *words, size_t words_len, uint64_t *taken);
+
+/* The engine, asked whether some part of the heap fits the question: verdict 1 and a part that fits, or 0 where none does. In `part` bit i
+ * stands for record i of the snapshot, counted from 0 at the low end. The part without a record may be the one that fits: then the verdict
+ * is 1 and the part 0. Where several fit, any of them may be returned. Without a fit and on a refusal the part is 0.
+ * Table and space are left as shapes_decide leaves them, with an unfolding that ends in the question with this part. */
+uint64_t shapes_part(const uint8_t *book, size_t book_len, const uint8_t *snapshot, size_t snapshot_len,
+                     const uint8_t *question, size_t question_len,
+                     uint64_t *table, size_t table_len, uint64_t *space, size_t space_len,
+                     uint64_t *verdict, uint16_t *part, uint64_t *facts, uint64_t *rounds, uint64_t *lines);
+
+/* The check, for this part in the place of the whole heap: it takes what shapes_part wrote, given the part that it returned. A part with a
+ * bit beyond the records is not taken, which is no refusal. */
+uint64_t shapes_check_part(const uint8_t *book, size_t book_len, const uint8_t *snapshot, size_t snapshot_len,
+                           const uint8_t *question, size_t question_len,
+                           uint16_t part, const uint64_t *words, size_t words_len, uint64_t *taken);
 
 #endif

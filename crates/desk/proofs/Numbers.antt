@@ -3,7 +3,7 @@ use mathlib.Core.{Path._≡_, Path.ap, List.List}
 use Prim.Native.Nat.{ℕ, _+_, _*_, _≤_}
 use native.Mathlib.Omega.{arith}
 use lib.ListN.{length, take}
-use Rattle.semantics.specs.{Served.Served, Contract.Checks, Contract.Checked, Contract.DeskChecks, Contract.DeskChecked}
+use Rattle.semantics.specs.{Heap.wholeOf, Served.Served, Contract.Checks, Contract.Checked, Contract.DeskChecks, Contract.DeskChecked}
 use Rattle.semantics.specs.declared.CheckReply.{CheckReply}
 use Rattle.desk.specs.Words.{Loaded}
 use Rattle.desk.proofs.Takes.{desk-takes}
@@ -25,6 +25,6 @@ desk-checked book snapshot question from (Served.unread n e a) = Served.unread n
 desk-checked book snapshot question from (Served.unlent i e l a) = absurd (l tt)
 desk-checked book snapshot question {bytes} {words} {n} {r} from (Served.answered i e l w) = Served.answered i e tt (by w)
   where
-    by : Checks i (take n words) r → DeskChecks i bytes (2 * r .refusal + r .taken)
+    by : Checks i (wholeOf (i .heap)) (take n words) r → DeskChecks i bytes (2 * r .refusal + r .taken)
     by (Checks.takes t a) = DeskChecks.takes (desk-takes i from .1 t) (ap (λ (r : CheckReply). 2 * r .refusal + r .taken) a)
     by (Checks.takes-not t a) = DeskChecks.takes-not (λ d. t (desk-takes i from .0 d)) (ap (λ (r : CheckReply). 2 * r .refusal + r .taken) a)

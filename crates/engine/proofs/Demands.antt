@@ -1,16 +1,18 @@
--- The three demands, as statements about every outcome that the contracts of `decide` and `check` allow. The functions of this crate are
--- proved to meet these contracts for all bytes, lengths and lent memory, and to end.
+-- The three demands, as statements about every outcome that the contracts of `decide`, `find`, `check` and `check_part` allow. The
+-- functions of this crate are proved to meet these contracts for all bytes, lengths and lent memory, and to end.
 use mathlib.Core.{Path._≡_, Path.sym, Path.ap, Path._∙_, Logic._↔_, Logic._≢_, Logic.⊎-elim, List.List}
-use Prim.Native.Nat.{ℕ, _*_, _≤_}
+use Prim.Native.Nat.{ℕ, _*_, _≤_, _<_, _^_}
 use native.Mathlib.Omega.{arith}
 use lib.ListN.{length, take}
 use Rattle.semantics.specs.{Lists.zeros, Heap.wholeOf, Reader.accepted, Reader.refused, Formats.Input, Formats.ladder, Certificate.Opened, Served.Served}
-use Rattle.semantics.specs.Contract.{domainOf, FitsInput, CertificateInput, TrimmedInput, FilledInput, MoreFactsThan, Lent, padded, refusalReply, Refuses, Answers, Decided, Checked}
-use Rattle.semantics.specs.declared.{Reply.Reply, CheckReply.CheckReply}
+use Rattle.semantics.specs.Contract.{domainOf, FitsInput, FitsPart, CertificateInput, CertificatePart, TrimmedPart, FilledInput, MoreFactsThan, Lent, padded, refusalReply, refusalPartReply, Refuses}
+use Rattle.semantics.specs.Contract.{Answers, Decided, Finds, Found, CheckedFor, CheckedPart}
+use Rattle.semantics.specs.declared.{Reply.Reply, PartReply.PartReply, CheckReply.CheckReply}
 use Rattle.semantics.proofs.ServedFacts.{served-answered, unread-exactly, unlent-exactly, answered-exactly}
-use Rattle.semantics.proofs.ContractFacts.{one-ladder}
+use Rattle.semantics.proofs.EngineCall.{AnswersOf, EngineCall, one-ladder, decided-call, found-call, call-checks}
+use Rattle.semantics.proofs.{Verdict.fits-whole, PartFacts.part-none, PartFacts.part-fits}
 use Rattle.semantics.proofs.Theorems as Theorems
-use Rattle.engine.proofs.AnswerFacts.{refusalIn, verdictIn, number-answered, eleven-answered, zero-answered, other-answered, verdict-answered, over-answered, table-answered, fits-answered, certificate-answered, empty-answered, refusedIn, takenIn, check-answered, taken-answered}
+use Rattle.engine.proofs.AnswerFacts.{refusalIn, verdictIn, room-counted, number-answered, eleven-answered, zero-answered, other-answered, verdict-answered, over-answered, table-answered, fits-answered, certificate-answered, empty-answered, refusedIn, takenIn, check-answered, taken-answered}
 
 -- the ladder has no other number than 1 to 9
 module _ (book snapshot question : List ℕ) where
@@ -19,8 +21,10 @@ module _ (book snapshot question : List ℕ) where
 
 -- ---- the engine
 
-module _ (book snapshot question table space : List ℕ) {r : Reply} {t x : List ℕ} (decided : Decided book snapshot question table space r t x) where
-  shown : (n : ℕ) → Refuses r table space t x n → r .refusal ≡ n
+-- Both questions, of an outcome in the form that they share: `decided-call` makes one of what `decide` may reply, with `FitsInput` for what
+-- a yes says and every record for the part; `found-call` of what `find` may reply, with a part that fits and the part replied.
+module _ (book snapshot question table space : List ℕ) {Yes : Input → Type 0} {part : Input → ℕ} {r : Reply} {t x : List ℕ} (call : EngineCall book snapshot question table space Yes part r t x) where
+  shown : (n : ℕ) → Refuses refusalReply r table space t x n → r .refusal ≡ n
   shown n k = ap refusalIn (k .is-reply)
 
   -- ---- demand 1: a verdict or a numbered refusal, in order, with lent memory as promised
@@ -29,58 +33,58 @@ module _ (book snapshot question table space : List ℕ) {r : Reply} {t x : List
   pub refusal-by-ladder : (n : ℕ) → 1 ≤ n → n ≤ 9 → (r .refusal ≡ n) ↔ (ladder book snapshot question ≡ refused n)
   refusal-by-ladder n low high =
       unread-exactly (one-ladder book snapshot question) (r .refusal) shown n (λ e. omega arith)
-      (λ i w e. ⊎-elim (λ z. omega (arith, z .0)) (λ z. omega (arith, z .0)) (number-answered w)) decided
+      (λ i w e. ⊎-elim (λ z. omega (arith, z .0)) (λ z. omega (arith, z .0)) (number-answered w)) call
 
   -- 10 is given exactly where all is read and the lent memory is not as it must be.
   pub refusal-ten : (r .refusal ≡ 10) ↔ ((i : Input) × (ladder book snapshot question ≡ accepted i) × (¬ Lent (length table) (length space)))
   refusal-ten =
       unlent-exactly (one-ladder book snapshot question) (r .refusal) shown (never book snapshot question 10 (λ z. omega (arith, z .1)))
-      (λ i w e. ⊎-elim (λ z. omega (arith, z .0)) (λ z. omega (arith, z .0)) (number-answered w)) decided
+      (λ i w e. ⊎-elim (λ z. omega (arith, z .0)) (λ z. omega (arith, z .0)) (number-answered w)) call
 
   -- 11 is given exactly where all is read, the memory is as it must be, and there are more facts than lines.
   pub refusal-eleven : (r .refusal ≡ 11)
       ↔ ((i : Input) × (ladder book snapshot question ≡ accepted i) × Lent (length table) (length space) × MoreFactsThan i (length table))
   refusal-eleven =
       answered-exactly (one-ladder book snapshot question) (r .refusal) shown 11 (λ e. omega arith) (never book snapshot question 11 (λ z. omega (arith, z .1)))
-      (λ i w. eleven-answered w) decided
+      (λ i w. eleven-answered w) call
 
   -- Nothing is refused exactly where all is read, the memory is as it must be, and the facts have space.
   pub no-refusal : (r .refusal ≡ 0)
       ↔ ((i : Input) × (ladder book snapshot question ≡ accepted i) × Lent (length table) (length space) × (¬ MoreFactsThan i (length table)))
   no-refusal =
       answered-exactly (one-ladder book snapshot question) (r .refusal) shown 0 (λ e. omega arith) (never book snapshot question 0 (λ z. omega (arith, z .0)))
-      (λ i w. zero-answered w) decided
+      (λ i w. zero-answered w) call
 
   -- Always: no number beyond 11, no verdict beyond 1, and with a refusal all other numbers are 0.
   pub refusal-most : r .refusal ≤ 11
-  refusal-most = by decided
+  refusal-most = by call
     where
-      by : Decided book snapshot question table space r t x → r .refusal ≤ 11
+      by : EngineCall book snapshot question table space Yes part r t x → r .refusal ≤ 11
       by (Served.unread n e k) = omega (arith, shown n k, Theorems.refusals-one-to-nine book snapshot question n e .1)
       by (Served.unlent i e l k) = omega (arith, shown 10 k)
       by (Served.answered i e l w) = ⊎-elim (λ z. omega (arith, z .0)) (λ z. omega (arith, z .0)) (number-answered w)
 
   pub verdict-most : r .verdict ≤ 1
-  verdict-most = by decided
+  verdict-most = by call
     where
-      by : Decided book snapshot question table space r t x → r .verdict ≤ 1
+      by : EngineCall book snapshot question table space Yes part r t x → r .verdict ≤ 1
       by (Served.unread n e k) = omega (arith, ap verdictIn (k .is-reply))
       by (Served.unlent i e l k) = omega (arith, ap verdictIn (k .is-reply))
       by (Served.answered i e l w) = verdict-answered w
 
   pub refused-alone : r .refusal ≢ 0 → r ≡ refusalReply (r .refusal)
-  refused-alone other = by decided
+  refused-alone other = by call
     where
-      by : Decided book snapshot question table space r t x → r ≡ refusalReply (r .refusal)
+      by : EngineCall book snapshot question table space Yes part r t x → r ≡ refusalReply (r .refusal)
       by (Served.unread n e k) = k .is-reply ∙ ap refusalReply (sym (shown n k))
       by (Served.unlent i e l k) = k .is-reply ∙ ap refusalReply (sym (shown 10 k))
       by (Served.answered i e l w) = let q = other-answered w other in over-answered w q .0 ∙ ap refusalReply (sym q)
 
   -- Refusals 1 to 10 leave all memory as it was found, and 11 leaves zeros.
   pub refused-keeps : 1 ≤ r .refusal → r .refusal ≤ 10 → (t ≡ table) × (x ≡ space)
-  refused-keeps low high = by decided
+  refused-keeps low high = by call
     where
-      by : Decided book snapshot question table space r t x → (t ≡ table) × (x ≡ space)
+      by : EngineCall book snapshot question table space Yes part r t x → (t ≡ table) × (x ≡ space)
       by (Served.unread n e k) = (k .same-table, k .same-space)
       by (Served.unlent i e l k) = (k .same-table, k .same-space)
       by (Served.answered i e l w) = absurd (⊎-elim (λ z. omega (arith, z .0)) (λ z. omega (arith, z .0)) (number-answered w))
@@ -88,13 +92,13 @@ module _ (book snapshot question table space : List ℕ) {r : Reply} {t x : List
   pub refused-clears : r .refusal ≡ 11 → (t ≡ zeros (length table)) × (x ≡ zeros (length space))
   refused-clears e =
       let (i, is-read, lent, more) = refusal-eleven .0 e in
-      let (a, b, c) = over-answered (served-answered (one-ladder book snapshot question) decided is-read lent) e in
+      let (a, b, c) = over-answered (served-answered (one-ladder book snapshot question) call is-read lent) e in
       (b, c ∙ ap zeros (sym (lent .three)))
 
   -- The user's own premises: the ladder gives no refusal, the lent memory is as it must be, and the facts have space.
   module _ (i : Input) (is-read : ladder book snapshot question ≡ accepted i) (lent : Lent (length table) (length space)) (space-left : ¬ MoreFactsThan i (length table)) where
-    answers : Answers i (length table) r t x
-    answers = served-answered (one-ladder book snapshot question) decided is-read lent
+    answers : AnswersOf i (length table) (Yes i) (part i) r t x
+    answers = served-answered (one-ladder book snapshot question) call is-read lent
 
     pub unrefused : r .refusal ≡ 0
     unrefused = zero-answered answers .1 space-left
@@ -106,12 +110,12 @@ module _ (book snapshot question table space : List ℕ) {r : Reply} {t x : List
 
     -- ---- demand 3: fits is what a finished tree by hand shows, and nothing else
 
-    pub fits-exactly : ((r .verdict ≡ 1) ↔ FitsInput i) × ((r .verdict ≡ 0) ↔ (¬ FitsInput i))
+    pub fits-exactly : ((r .verdict ≡ 1) ↔ Yes i) × ((r .verdict ≡ 0) ↔ (¬ Yes i))
     fits-exactly = fits-answered answers unrefused
 
     -- With fits comes a certificate of the engine's kind: the unfolding space has its words and then zeros, and the reply tells how many
     -- lines it has. Without, the space has zeros.
-    pub fits-certified : r .verdict ≡ 1 → (words : List ℕ) × (u : TrimmedInput i words) × (r .lines ≡ u .taken .count) × (x ≡ padded (length space) words)
+    pub fits-certified : r .verdict ≡ 1 → (words : List ℕ) × (u : TrimmedPart i (part i) words) × (r .lines ≡ u .taken .count) × (x ≡ padded (length space) words)
     fits-certified e =
         let (words, u, count, is-space) = certificate-answered answers e in
         (words, u, count, is-space ∙ ap (λ (n : ℕ). padded n words) (sym (lent .three)))
@@ -119,13 +123,60 @@ module _ (book snapshot question table space : List ℕ) {r : Reply} {t x : List
     pub fits-not-empty : r .verdict ≡ 0 → (r .lines ≡ 0) × (x ≡ zeros (length space))
     fits-not-empty e = let (none, is-space) = empty-answered answers e in (none, is-space ∙ ap zeros (sym (lent .three)))
 
-  -- The check takes what the engine writes.
-  pub written-is-taken : r .verdict ≡ 1 → Checked book snapshot question (take (3 * r .lines) x) (record { refusal = 0; taken = 1 })
-  written-is-taken = Theorems.decided-checks book snapshot question table space decided
+  -- The check takes what the engine writes, given its part.
+  pub written-is-taken : r .verdict ≡ 1 → CheckedFor book snapshot question part (take (3 * r .lines) x) (record { refusal = 0; taken = 1 })
+  written-is-taken = call-checks book snapshot question table space call
+
+-- ---- the question about some part
+
+module _ (book snapshot question table space : List ℕ) {r : PartReply} {t x : List ℕ} (found : Found book snapshot question table space r t x) where
+  -- With a refusal all other numbers are 0, the part too.
+  pub find-refused-alone : r .refusal ≢ 0 → r ≡ refusalPartReply (r .refusal)
+  find-refused-alone other = by found
+    where
+      alone : {n : ℕ} → r ≡ refusalPartReply n → r ≡ refusalPartReply (r .refusal)
+      alone e = e ∙ ap refusalPartReply (sym (ap (λ (r : PartReply). r .refusal) e))
+
+      by : Found book snapshot question table space r t x → r ≡ refusalPartReply (r .refusal)
+      by (Served.unread n e k) = alone (k .is-reply)
+      by (Served.unlent i e l k) = alone (k .is-reply)
+      by (Served.answered i e l (Finds.over m a b c)) = alone a
+      by (Served.answered i e l (Finds.some part rounds facts words f v u a c)) = absurd (other (ap (λ (r : PartReply). r .refusal) a))
+      by (Served.answered i e l (Finds.none rounds facts f v a c)) = absurd (other (ap (λ (r : PartReply). r .refusal) a))
+
+  -- Without a yes the part is 0.
+  pub find-no-part : r .verdict ≡ 0 → r .part ≡ 0
+  find-no-part = part-none book snapshot question table space found
+
+  module _ (i : Input) (is-read : ladder book snapshot question ≡ accepted i) where
+    -- With a yes the part fits and has no bit beyond the records.
+    pub find-part : r .verdict ≡ 1 → FitsPart i (r .part) × (r .part < 2 ^ length (i .heap))
+    find-part z =
+        let k = part-fits book snapshot question table space found z i is-read in
+        (k, Theorems.part-within i (Theorems.read-is-well-formed book snapshot question i is-read) k)
+
+    -- Yes is said exactly if some part fits, and no exactly if none does.
+    pub find-exactly : Lent (length table) (length space) → ¬ MoreFactsThan i (length table)
+        → ((r .verdict ≡ 1) ↔ ((part : ℕ) × FitsPart i part)) × ((r .verdict ≡ 0) ↔ ((part : ℕ) → ¬ FitsPart i part))
+    find-exactly lent room =
+        let (a, b) = fits-exactly book snapshot question table space (found-call book snapshot question table space found) i is-read lent room in
+        (a, (λ z part k. b .0 z (part, k), λ none. b .1 (λ (part, k). none part k)))
+
+  -- Where the whole heap fits, some part does.
+  pub whole-is-found : {s : Reply} {u y : List ℕ} → Decided book snapshot question table space s u y → s .verdict ≡ 1 → r .verdict ≡ 1
+  whole-is-found {s} {u} {y} decided z = by decided
+    where
+      by : Decided book snapshot question table space s u y → r .verdict ≡ 1
+      by (Served.unread n e k) = absurd (omega (arith, ap verdictIn (k .is-reply)))
+      by (Served.unlent i e l k) = absurd (omega (arith, ap verdictIn (k .is-reply)))
+      by (Served.answered i e l (Answers.over m a b c)) = absurd (omega (arith, ap verdictIn a))
+      by (Served.answered i e l (Answers.fits rounds facts words f v w a c)) =
+          find-exactly i e l (room-counted i (f .completed) (length table) .1 (f .room)) .0 .1 (wholeOf (i .heap), fits-whole v)
+      by (Served.answered i e l (Answers.fits-not rounds facts f v a c)) = absurd (omega (arith, ap verdictIn a))
 
 -- ---- the check
 
-module _ (book snapshot question words : List ℕ) {r : CheckReply} (checked : Checked book snapshot question words r) where
+module _ (book snapshot question words : List ℕ) {part : Input → ℕ} {r : CheckReply} (checked : CheckedFor book snapshot question part words r) where
   check-shown : (n : ℕ) → r ≡ record { refusal = n; taken = 0 } → r .refusal ≡ n
   check-shown n a = ap refusedIn a
 
@@ -144,7 +195,7 @@ module _ (book snapshot question words : List ℕ) {r : CheckReply} (checked : C
   pub check-refusal-most : r .refusal ≤ 9
   check-refusal-most = by checked
     where
-      by : Checked book snapshot question words r → r .refusal ≤ 9
+      by : CheckedFor book snapshot question part words r → r .refusal ≤ 9
       by (Served.unread n e a) = omega (arith, check-shown n a, Theorems.refusals-one-to-nine book snapshot question n e .1)
       by (Served.unlent i e l a) = absurd (l tt)
       by (Served.answered i e l w) = omega (arith, check-answered w .0)
@@ -152,7 +203,7 @@ module _ (book snapshot question words : List ℕ) {r : CheckReply} (checked : C
   pub taken-most : r .taken ≤ 1
   taken-most = by checked
     where
-      by : Checked book snapshot question words r → r .taken ≤ 1
+      by : CheckedFor book snapshot question part words r → r .taken ≤ 1
       by (Served.unread n e a) = omega (arith, ap takenIn a)
       by (Served.unlent i e l a) = absurd (l tt)
       by (Served.answered i e l w) = taken-answered w
@@ -160,24 +211,30 @@ module _ (book snapshot question words : List ℕ) {r : CheckReply} (checked : C
   pub check-refused-alone : r .refusal ≢ 0 → r .taken ≡ 0
   check-refused-alone other = by checked
     where
-      by : Checked book snapshot question words r → r .taken ≡ 0
+      by : CheckedFor book snapshot question part words r → r .taken ≡ 0
       by (Served.unread n e a) = ap takenIn a
       by (Served.unlent i e l a) = absurd (l tt)
       by (Served.answered i e l w) = absurd (other (check-answered w .0))
 
   -- It takes exactly what is read and meets the conditions for lines.
-  pub taken-only : (r .taken ≡ 1) ↔ ((i : Input) × (ladder book snapshot question ≡ accepted i) × CertificateInput i words)
+  pub taken-only : (r .taken ≡ 1) ↔ ((i : Input) × (ladder book snapshot question ≡ accepted i) × CertificatePart i (part i) words)
   taken-only = (by checked, λ (i, is-read, c). check-answered (served-answered (one-ladder book snapshot question) checked is-read tt) .1 .1 c)
     where
-      by : Checked book snapshot question words r → r .taken ≡ 1 → (i : Input) × (ladder book snapshot question ≡ accepted i) × CertificateInput i words
+      by : CheckedFor book snapshot question part words r → r .taken ≡ 1 → (i : Input) × (ladder book snapshot question ≡ accepted i) × CertificatePart i (part i) words
       by (Served.unread n e a) z = absurd (omega (arith, ap takenIn a))
       by (Served.unlent i e l a) z = absurd (l tt)
       by (Served.answered i e l w) z = (i, e, check-answered w .1 .0 z)
 
   -- The user's own premise: the ladder gives no refusal.
   pub taken-exactly : (i : Input) → ladder book snapshot question ≡ accepted i
-      → (r .refusal ≡ 0) × ((r .taken ≡ 1) ↔ CertificateInput i words) × ((r .taken ≡ 0) ↔ (¬ CertificateInput i words))
+      → (r .refusal ≡ 0) × ((r .taken ≡ 1) ↔ CertificatePart i (part i) words) × ((r .taken ≡ 0) ↔ (¬ CertificatePart i (part i) words))
   taken-exactly i is-read = check-answered (served-answered (one-ladder book snapshot question) checked is-read tt)
+
+-- A certificate for a part stands for a tree by hand too: a finished tree of the query that has exactly this part. So the part fits.
+pub taken-part-opens : (book snapshot question words : List ℕ) (i : Input) (part : ℕ) → part < 65536 → ladder book snapshot question ≡ accepted i → (c : CertificatePart i part words)
+    → Opened (i .ruleSet) (i .heap) (domainOf i) words (c .count) (i .predicate) (i .values) part × FitsPart i part
+taken-part-opens book snapshot question words i part small is-read =
+    Theorems.certificate-opens-part i (Theorems.read-is-well-formed book snapshot question i is-read) part small words
 
 -- A certificate stands for a tree by hand: its last line, opened, is a finished tree of the query that has the whole heap. So the query
 -- fits.
@@ -185,3 +242,11 @@ pub taken-opens : (book snapshot question words : List ℕ) (i : Input) → ladd
     → Opened (i .ruleSet) (i .heap) (domainOf i) words (c .count) (i .predicate) (i .values) (wholeOf (i .heap)) × FitsInput i
 taken-opens book snapshot question words i is-read =
     Theorems.certificate-opens i (Theorems.read-is-well-formed book snapshot question i is-read) words
+
+-- A part with a bit beyond the records is not taken, which is no refusal.
+pub beyond-is-not-taken : (book snapshot question words : List ℕ) (part : ℕ) {r : CheckReply} → CheckedPart book snapshot question part words r → part < 65536
+    → (i : Input) → ladder book snapshot question ≡ accepted i → 2 ^ length (i .heap) ≤ part → (r .refusal ≡ 0) × (r .taken ≡ 0)
+beyond-is-not-taken book snapshot question words part checked small i is-read beyond =
+    let (a, _, b) = taken-exactly book snapshot question words checked i is-read in
+    let h = Theorems.read-is-well-formed book snapshot question i is-read in
+    (a, b .1 (λ c. let within = Theorems.part-within i h (taken-part-opens book snapshot question words i part small is-read c .1) in omega arith))

@@ -10,7 +10,7 @@ use Rattle.semantics.specs.Formats.{readRuleSet, readSnapshot, records, readQue
 use Rattle.semantics.specs.Domain.{firstOutside, spares, insert, ascending, mostVariables, domain}
 use Rattle.semantics.specs.{Fact.position, Fact.code, Fact.fact, Rounds.After, Contract.domainOf, Contract.FitsInput, Contract.CompletedInput}
 use Rattle.rows.specs.Rows.{Row, RowTrue, Verdict, LinesShown, LastShown, rows}
-use Rattle.semantics.proofs.{DomainFacts.member-true, DomainFacts.member-out, Verdict.verdict, FormatsFacts.ladder-read}
+use Rattle.semantics.proofs.{DomainFacts.member-true, DomainFacts.member-out, Verdict.verdict, Verdict.fits-whole, FormatsFacts.ladder-read}
 use Rattle.semantics.proofs.Evaluator.{when, both, every, sameList, sameRecord, assignments, compares, meetsAll, finds, takings, answers, callings, joined, byFacts, byRecords, byTest, byValues, byArguments, byRule, steps, following, dropKnown, newFacts, run, Run}
 use Rattle.semantics.proofs.Evaluation.{both-out, every-out, Done, run-done}
 use Rattle.semantics.proofs.LineCount.{ways, leave, isEmpty, isSome, avoids, exactly, line-count}
@@ -59,7 +59,7 @@ lines-of : (b : Bool) (lines : ℕ) (i : Input) {r : ℕ} (table : List ℕ) →
 unfolding testLines
 lines-of true lines i table h fits c e =
     let (few, e′) = both-out (leb (length table) 65535) (exactly (steps (i .ruleSet) (i .heap) (domainOf i) table) lines (asked i ∷ []) []) e in (
-      trimmed-exists (i .ruleSet) (i .heap) (i .predicate) (i .values) (h .valid) fits (c .after) (c .complete) (leb-true (length table) 65535 few),
+      trimmed-exists (i .ruleSet) (i .heap) (i .predicate) (i .values) (wholeOf (i .heap)) (h .valid) (fits-whole fits) (c .after) (c .complete) (leb-true (length table) 65535 few),
       λ words u. line-count (i .ruleSet) (i .heap) (i .predicate) (i .values) words u table (c .complete) lines e′,
     )
 lines-of false lines i table h fits c e = eqb-true lines 0 e

@@ -4,13 +4,13 @@ use Prim.Native.Nat.{ℕ, _*_, _≤_, _<_}
 use native.Mathlib.{Omega.arith, Decide.ℕ-discrete, Decide.decLt}
 use lib.ListN.{length}
 use Rattle.semantics.specs.{Lists.zeros, Heap.wholeOf, Formats.Input, Formats.ladder, Formats.WellFormedInput, Refusals.tooManyFacts}
-use Rattle.semantics.specs.Contract.{domainOf, FitsInput, CertificateInput, Lent, CompletedInput, padded, refusalReply, Refuses, Answers, Decided, Checks, Checked}
-use Rattle.semantics.proofs.{DomainFacts.domain-ascending, DomainFacts.domain-length, FormatsFacts.ladder-read, Existence.trimmed-exists}
+use Rattle.semantics.specs.Contract.{domainOf, FitsInput, CertificatePart, Lent, CompletedInput, padded, refusalReply, Refuses, Answers, Decided, Checks, CheckedFor}
+use Rattle.semantics.proofs.{DomainFacts.domain-ascending, DomainFacts.domain-length, FormatsFacts.ladder-read, Verdict.fits-whole, Existence.trimmed-exists}
 use Rattle.semantics.proofs.{Reached.completed-exists, Reached.more-facts, Reached.fits-decided, CertificateTest.takes, Taking.takes-exact}
 use Rattle.semantics.proofs.ServedFacts.{serves}
 use Rattle.semantics.specs.declared.{Reply.Reply, CheckReply.CheckReply}
 
-lent-decided : (n m : ℕ) → Dec (Lent n m)
+pub lent-decided : (n m : ℕ) → Dec (Lent n m)
 lent-decided n m = step (decLt 0 n) (decLt n 65536) (ℕ-discrete m (3 * n))
   where
     step : Dec (0 < n) → Dec (n < 65536) → Dec (m ≡ 3 * n) → Dec (Lent n m)
@@ -43,7 +43,7 @@ answer-exists i h n l =
       Answers.fits-not r xs (record { completed = c; room = omega arith; is-table = refl }) f refl refl,
     )
     step r xs c (no m) (yes f) =
-        let (words, u) = trimmed-exists (i .ruleSet) (i .heap) (i .predicate) (i .values) (h .valid) f (c .after) (c .complete) (omega arith) in (
+        let (words, u) = trimmed-exists (i .ruleSet) (i .heap) (i .predicate) (i .values) (wholeOf (i .heap)) (h .valid) (fits-whole f) (c .after) (c .complete) (omega arith) in (
           record {
             reply = record { refusal = 0; verdict = 1; facts = length xs; rounds = r; lines = u .taken .count };
             table = padded n xs;
@@ -55,27 +55,27 @@ answer-exists i h n l =
 module _ (book snapshot question : List ℕ) where
   pub decided-exists : (table space : List ℕ) → (o : Returned) × Decided book snapshot question table space (o .reply) (o .table) (o .space)
   decided-exists table space =
-      serves {Refuses = λ (o : Returned) (n : ℕ). Refuses (o .reply) table space (o .table) (o .space) n} {Answered = λ (o : Returned) (i : Input). AnswersBy i (length table) o}
+      serves {Refuses = λ (o : Returned) (n : ℕ). Refuses refusalReply (o .reply) table space (o .table) (o .space) n} {Answered = λ (o : Returned) (i : Input). AnswersBy i (length table) o}
       (ladder book snapshot question) refl (lent-decided (length table) (length space))
       (λ n. (record { reply = refusalReply n; table = table; space = space }, record { is-reply = refl; same-table = refl; same-space = refl }))
       (λ i e l. answer-exists i (ladder-read book snapshot question i e) (length table) (l .most))
 
   -- the conditions for lines are decided
-  taken-decided : (i : Input) → WellFormedInput i → (words : List ℕ) → Dec (CertificateInput i words)
-  taken-decided i h words =
+  taken-decided : (i : Input) → WellFormedInput i → (part : ℕ) (words : List ℕ) → Dec (CertificatePart i part words)
+  taken-decided i h part words =
       let x = takes-exact (i .ruleSet) (i .heap) (domainOf i) words (domain-ascending (i .ruleSet) (i .heap) (i .values)) (omega (arith, h .valid .rules-formed .rules-few))
-      (omega (arith, domain-length (i .ruleSet) (i .heap) (i .values) (h .valid))) (i .predicate) (i .values) (wholeOf (i .heap)) in
-      step (takes (i .ruleSet) (i .heap) (domainOf i) words (i .predicate) (i .values) (wholeOf (i .heap))) refl x
+      (omega (arith, domain-length (i .ruleSet) (i .heap) (i .values) (h .valid))) (i .predicate) (i .values) part in
+      step (takes (i .ruleSet) (i .heap) (domainOf i) words (i .predicate) (i .values) part) refl x
     where
-      step : (b : Bool) → takes (i .ruleSet) (i .heap) (domainOf i) words (i .predicate) (i .values) (wholeOf (i .heap)) ≡ b
-          → ((takes (i .ruleSet) (i .heap) (domainOf i) words (i .predicate) (i .values) (wholeOf (i .heap)) ≡ true) ↔ CertificateInput i words) → Dec (CertificateInput i words)
+      step : (b : Bool) → takes (i .ruleSet) (i .heap) (domainOf i) words (i .predicate) (i .values) part ≡ b
+          → ((takes (i .ruleSet) (i .heap) (domainOf i) words (i .predicate) (i .values) part ≡ true) ↔ CertificatePart i part words) → Dec (CertificatePart i part words)
       step true e x = yes (x .0 e)
       step false e x = no (λ t. false≢true (sym e ∙ x .1 t))
 
-  pub checked-exists : (words : List ℕ) → (r : CheckReply) × Checked book snapshot question words r
-  checked-exists words =
-      serves {Refuses = λ (r : CheckReply) (n : ℕ). r ≡ record { refusal = n; taken = 0 }} {Answered = λ (r : CheckReply) (i : Input). Checks i words r}
+  pub checked-exists : (part : Input → ℕ) (words : List ℕ) → (r : CheckReply) × CheckedFor book snapshot question part words r
+  checked-exists part words =
+      serves {Refuses = λ (r : CheckReply) (n : ℕ). r ≡ record { refusal = n; taken = 0 }} {Answered = λ (r : CheckReply) (i : Input). Checks i (part i) words r}
       (ladder book snapshot question) refl (yes tt)
       (λ n. (record { refusal = n; taken = 0 }, refl))
-      (λ i e l. by-cases (taken-decided i (ladder-read book snapshot question i e) words)
+      (λ i e l. by-cases (taken-decided i (ladder-read book snapshot question i e) (part i) words)
       (λ t. (record { refusal = 0; taken = 1 }, Checks.takes t refl)) (λ n. (record { refusal = 0; taken = 0 }, Checks.takes-not n refl)))

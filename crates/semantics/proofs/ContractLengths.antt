@@ -1,13 +1,12 @@
--- What is lent keeps its length in every outcome: the facts and the lines that are written fit.
+-- The facts and the lines that are written fit into what is lent.
 use mathlib.Core.{Path._≡_, Path.refl, Path.sym, Path.ap, Path._∙_, Logic._≢_, Logic.⊎-elim}
 use mathlib.Core.List.{List, [], _∷_, List·Memᴰ·cases-cons, List·Memᴰ·not-nil}
 use Prim.Native.Nat.{ℕ, zero, suc, _-_, _*_, _≤_, _<_}
 use native.Mathlib.Omega.{arith}
 use lib.ListN.{length, length-append, length-replicate}
-use Rattle.semantics.specs.{Lists._among_, Lists.Distinct, Lists.zeros, Formats.Input, Certificate.factAt, Served.Served}
-use Rattle.semantics.specs.Contract.{domainOf, TrimmedInput, CompletedInput, padded, Answers, Decided}
+use Rattle.semantics.specs.{Lists._among_, Lists.Distinct, Lists.zeros, Formats.Input, Certificate.factAt}
+use Rattle.semantics.specs.Contract.{domainOf, TrimmedPart, CompletedInput, padded}
 use Rattle.semantics.proofs.FixedPoint.{line-holds, holding-counted}
-use Rattle.semantics.specs.declared.Reply.{Reply}
 
 facts-to : List ℕ → ℕ → List ℕ
 facts-to words zero = []
@@ -31,7 +30,7 @@ to-distinct words (suc n) once =
     Distinct.next (λ m. let (k, a, b, e) = to-member words n (factAt words (suc n)) m in once k (suc n) a (omega arith) (omega arith) (sym e))
     (to-distinct words n (λ j k a b c. once j k a b (omega arith)))
 
-pub lines-fit : (i : Input) (words : List ℕ) (u : TrimmedInput i words) {r : ℕ} {facts : List ℕ} → CompletedInput i r facts → u .taken .count ≤ length facts
+pub lines-fit : (i : Input) {part : ℕ} (words : List ℕ) (u : TrimmedPart i part words) {r : ℕ} {facts : List ℕ} → CompletedInput i r facts → u .taken .count ≤ length facts
 lines-fit i words u c =
     omega (
       arith,
@@ -40,24 +39,5 @@ lines-fit i words u c =
           (λ f m. let (k, a, b, e) = to-member words (u .taken .count) f m in rw e (line-holds (i .ruleSet) (i .heap) (domainOf i) (u .taken) k k (omega arith) a b)),
     )
 
-padded-length : (n : ℕ) (xs : List ℕ) → length xs ≤ n → length (padded n xs) ≡ n
+pub padded-length : (n : ℕ) (xs : List ℕ) → length xs ≤ n → length (padded n xs) ≡ n
 padded-length n xs l = omega (arith, length-append xs (zeros (n - length xs)), length-replicate {A = ℕ} (n - length xs) 0)
-
-pub record Keeps (table space table′ space′ : List ℕ) : Type 0 where
-  pub tables : length table′ ≡ length table
-  pub spaces : length space′ ≡ length space
-
-pub decided-lengths : (book snapshot question table space : List ℕ) {r : Reply} {table′ space′ : List ℕ} → Decided book snapshot question table space r table′ space′ → Keeps table space table′ space′
-decided-lengths b s q table space (Served.unread n e k) = record { tables = ap length (k .same-table); spaces = ap length (k .same-space) }
-decided-lengths b s q table space (Served.unlent i e l k) = record { tables = ap length (k .same-table); spaces = ap length (k .same-space) }
-decided-lengths b s q table space {r} {table′} {space′} (Served.answered i e l w) = by w
-  where
-    by : Answers i (length table) r table′ space′ → Keeps table space table′ space′
-    by (Answers.over m a t p) =
-        record { tables = ap length t ∙ length-replicate {A = ℕ} (length table) 0; spaces = omega (arith, ap length p, length-replicate {A = ℕ} (3 * length table) 0, l .three) }
-    by (Answers.fits-not rounds facts w f a p) =
-        record { tables = ap length (w .is-table) ∙ padded-length (length table) facts (w .room); spaces = omega (arith, ap length p, length-replicate {A = ℕ} (3 * length table) 0, l .three) }
-    by (Answers.fits rounds facts words w f u a p) = record {
-      tables = ap length (w .is-table) ∙ padded-length (length table) facts (w .room);
-      spaces = omega (arith, ap length p, padded-length (3 * length table) words (omega (arith, u .taken .whole, lines-fit i words u (w .completed), w .room)), l .three);
-    }

@@ -7,13 +7,13 @@ use Prim.Native.Nat.{ℕ, suc, _+_, _*_, _≤_, _<_}
 use native.Mathlib.{Omega.arith, Decide.ℕ-discrete}
 use lib.{ListN.length, ListN.getD, ListN.length-append, ListN.List·getD-append, Seq.getD-append-add, Dec.eqb}
 use borrow.Author.Tests.{eq-eqb, ne-eqb}
-use Rattle.semantics.specs.{Lists._among_, Lists.Distinct, Lists.digits, RuleSet.RuleSet, RuleSet.blankRule, Heap.Heap, Heap.wholeOf, Formats.Valid}
-use Rattle.semantics.specs.{Tree.Fits, Domain.domain, Fact.position, Fact.fact}
+use Rattle.semantics.specs.{Lists._among_, Lists.Distinct, Lists.digits, RuleSet.RuleSet, RuleSet.blankRule, Heap.Heap, Formats.Valid}
+use Rattle.semantics.specs.{Tree.ByHand, Domain.domain, Fact.position, Fact.fact}
 use Rattle.semantics.specs.Rounds.{Ground, Complete, After, Holds, AllHold}
 use Rattle.semantics.specs.Certificate.{factAt, LineHolds, Trimmed}
 use Rattle.semantics.proofs.{Bits.decIn, Bits.in-rest, DomainFacts.query-good}
 use Rattle.semantics.proofs.FixedPoint.{same-ground, holds-closed, table-holds, holding-counted}
-use Rattle.semantics.proofs.{Verdict.fits-whole, Verdict.completeness, LineCount.leave, LineCount.leave-in, LineCount.leave-out}
+use Rattle.semantics.proofs.{Verdict.completeness, LineCount.leave, LineCount.leave-in, LineCount.leave-out}
 
 module _ (ruleSet : RuleSet) (heap : Heap) (values : List ℕ) where
   -- Facts, newest first, each from older ones, none twice.
@@ -275,9 +275,9 @@ module _ (ruleSet : RuleSet) (heap : Heap) (values : List ℕ) where
       older : CalledIn b f → lineOf (f ∷ fs) root ≡ length (f ∷ fs)
       older c = absurd (apart (built-distinct b) (called-older b f c))
 
-module _ (ruleSet : RuleSet) (heap : Heap) (p : ℕ) (query : List ℕ) where
+module _ (ruleSet : RuleSet) (heap : Heap) (p : ℕ) (query : List ℕ) (part : ℕ) where
   abbrev root : ℕ
-  root = fact (domain ruleSet heap query) p query (wholeOf heap)
+  root = fact (domain ruleSet heap query) p query part
 
   abbrev BuiltHere : List ℕ → Type 0
   BuiltHere = Built ruleSet heap (domain ruleSet heap query)
@@ -285,7 +285,7 @@ module _ (ruleSet : RuleSet) (heap : Heap) (p : ℕ) (query : List ℕ) where
   trimmed-of : (table : List ℕ) → Complete ruleSet heap (domain ruleSet heap query) table → length table ≤ 65535
       → (fs : List ℕ) (b : BuiltHere fs) → root among fs
       → ((g : ℕ) → g among fs → (g among root ∷ []) ⊎ CalledIn ruleSet heap (domain ruleSet heap query) b g)
-      → Trimmed ruleSet heap (domain ruleSet heap query) p query (wholeOf heap) (wordsOf ruleSet heap (domain ruleSet heap query) b)
+      → Trimmed ruleSet heap (domain ruleSet heap query) p query part (wordsOf ruleSet heap (domain ruleSet heap query) b)
   trimmed-of table complete small fs b m used =
       let values : List ℕ = domain ruleSet heap query in
       let words : List ℕ = wordsOf ruleSet heap values b in
@@ -320,15 +320,15 @@ module _ (ruleSet : RuleSet) (heap : Heap) (p : ℕ) (query : List ℕ) where
             (used g i);
       }
 
-  -- Where the query fits and the table has at most 65,535 facts, there is a certificate of the engine's kind.
-  pub trimmed-exists : Valid ruleSet heap query → Fits ruleSet heap p query
+  -- Where the query fits the part and the table has at most 65,535 facts, there is a certificate of the engine's kind.
+  pub trimmed-exists : Valid ruleSet heap query → ByHand ruleSet heap p query part
       → {r : ℕ} {table : List ℕ} → After ruleSet heap (domain ruleSet heap query) r table → Complete ruleSet heap (domain ruleSet heap query) table → length table ≤ 65535
-      → (words : List ℕ) × Trimmed ruleSet heap (domain ruleSet heap query) p query (wholeOf heap) words
+      → (words : List ℕ) × Trimmed ruleSet heap (domain ruleSet heap query) p query part words
   trimmed-exists valid fits {r} {table} after complete small =
       let values : List ℕ = domain ruleSet heap query in
       let h : Holds ruleSet heap values root =
       table-holds ruleSet heap values after root
-      (completeness ruleSet heap query valid p query (wholeOf heap) (query-good ruleSet heap query) (fits-whole fits) after complete) in
+      (completeness ruleSet heap query valid p query part (query-good ruleSet heap query) fits after complete) in
       let w = grow ruleSet heap values h [] Built.none in
       let r = prune ruleSet heap values (w .built) (root ∷ []) (w .new) in (
         wordsOf ruleSet heap values (r .built),

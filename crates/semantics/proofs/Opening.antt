@@ -5,11 +5,11 @@ use Prim.Native.Nat.{ℕ, zero, suc, _≤_, _<_}
 use native.Mathlib.Omega.{arith}
 use lib.ListN.{length}
 use Rattle.semantics.specs.{Lists._among_, Lists.Distinct, RuleSet.Call, RuleSet.RuleSet, RuleSet.arity, RuleSet.variables}
-use Rattle.semantics.specs.{Heap.Heap, Heap.wholeOf, Heap.Joins, Formats.Valid, Tree.Forest, Tree.Fits, Domain.domain, Fact.fact, Fact.partOf}
+use Rattle.semantics.specs.{Heap.Heap, Heap.wholeOf, Heap.Joins, Formats.Valid, Tree.Forest, Tree.ByHand, Tree.Fits, Domain.domain, Fact.fact, Fact.partOf}
 use Rattle.semantics.specs.{Rounds.Called, Certificate.factAt, Certificate.LineHolds, Certificate.Certificate, Certificate.OpensAll, Certificate.Opened}
-use Rattle.semantics.proofs.{Bits.whole-below, Bits.whole-members, Parts.small-part, Limits.Limits, DomainFacts.good-is-domain, DomainFacts.query-good}
+use Rattle.semantics.proofs.{Bits.whole-below, Parts.small-part, Limits.Limits, DomainFacts.good-is-domain, DomainFacts.query-good}
 use Rattle.semantics.proofs.Soundness.{Stands, Trees, shown-of, ScopedCall, call-shown, trees-next, variables-counted, calls-in-scope, calls-join, node-over, head-stands}
-use Rattle.semantics.proofs.Verdict.{limits}
+use Rattle.semantics.proofs.Verdict.{limits, whole-fits}
 
 module _ (ruleSet : RuleSet) (heap : Heap) (domain words : List ℕ) (limits : Limits ruleSet heap domain) where
   opened-small : (k p : ℕ) (vs : List ℕ) (part : ℕ) → Opened ruleSet heap domain words k p vs part → part < 65536
@@ -71,11 +71,17 @@ taken-opens ruleSet heap query valid p vs part words counted keeps small t =
     shown-of ruleSet heap values lim (Opened ruleSet heap values words (t .count)) (opened-small ruleSet heap values words lim (t .count))
     (factAt words (t .count)) p vs part (t .last) small counted keeps s
 
+-- What was asked of a part: the part fits.
+pub part-opens : (ruleSet : RuleSet) (heap : Heap) (p : ℕ) (query : List ℕ) (part : ℕ) (words : List ℕ) → Valid ruleSet heap query → length query ≡ arity ruleSet p → part < 65536
+    → (t : Certificate ruleSet heap (domain ruleSet heap query) p query part words)
+    → Opened ruleSet heap (domain ruleSet heap query) words (t .count) p query part × ByHand ruleSet heap p query part
+part-opens ruleSet heap p query part words valid counted small t =
+    let o = taken-opens ruleSet heap query valid p query part words counted (λ v k. good-is-domain ruleSet heap query v (query-good ruleSet heap query v k)) small t in
+    (o, record { taken = o .taken; tree = o .tree; once = o .once; part-taken = o .part-taken })
+
 -- With every record: the query fits.
 pub whole-opens : (ruleSet : RuleSet) (heap : Heap) (p : ℕ) (query words : List ℕ) → Valid ruleSet heap query → length query ≡ arity ruleSet p
     → (t : Certificate ruleSet heap (domain ruleSet heap query) p query (wholeOf heap) words)
     → Opened ruleSet heap (domain ruleSet heap query) words (t .count) p query (wholeOf heap) × Fits ruleSet heap p query
 whole-opens ruleSet heap p query words valid counted t =
-    let o = taken-opens ruleSet heap query valid p query (wholeOf heap) words counted
-    (λ v k. good-is-domain ruleSet heap query v (query-good ruleSet heap query v k)) (whole-below (length heap) 16 (valid .heap-formed .records-few)) t in
-    (o, record { taken = o .taken; tree = o .tree; once = o .once; all = whole-members (length heap) (o .taken) (o .once) (sym (o .part-taken)) })
+    let (o, h) = part-opens ruleSet heap p query (wholeOf heap) words valid counted (whole-below (length heap) 16 (valid .heap-formed .records-few)) t in (o, whole-fits h)

@@ -3,9 +3,9 @@ use mathlib.Core.{List.List, List.[], List._∷_, List._++_, Path._≡_}
 use Prim.Native.Nat.{ℕ, _+_, _-_, _*_, _≤_, _<_}
 use lib.ListN.{length, getD, take, drop}
 use Rattle.semantics.specs.{Lists._among_, Lists.digitsOf, Lists.zeros, RuleSet.RuleSet, Heap.Heap, Heap.wholeOf, Reader.Result, Refusals.tooManyFacts}
-use Rattle.semantics.specs.{Served.Served, Formats.Input, Formats.ladder, Tree.Fits, Domain.domain}
+use Rattle.semantics.specs.{Served.Served, Formats.Input, Formats.ladder, Tree.Fits, Tree.ByHand, Domain.domain}
 use Rattle.semantics.specs.{Rounds.After, Rounds.Complete, Rounds.Holds, Rounds.MoreThan, Certificate.Certificate, Certificate.Trimmed}
-use Rattle.semantics.specs.declared.{Reply.Reply, CheckReply.CheckReply}
+use Rattle.semantics.specs.declared.{Reply.Reply, PartReply.PartReply, CheckReply.CheckReply}
 
 -- ---- the definitions, for what was read
 
@@ -20,12 +20,23 @@ HoldsInput i = Holds (i .ruleSet) (i .heap) (domainOf i)
 abbrev pub FitsInput : Input → Type 0
 FitsInput i = Fits (i .ruleSet) (i .heap) (i .predicate) (i .values)
 
--- The words are a certificate of the query for the whole heap, of any kind and of the engine's kind.
+-- The query fits a part of the heap: some finished tree for it has exactly the records of the part.
+abbrev pub FitsPart : Input → ℕ → Type 0
+FitsPart i = ByHand (i .ruleSet) (i .heap) (i .predicate) (i .values)
+
+-- The words are a certificate of the query for a part, of any kind and of the engine's kind.
+abbrev pub CertificatePart : Input → ℕ → List ℕ → Type 0
+CertificatePart i = Certificate (i .ruleSet) (i .heap) (domainOf i) (i .predicate) (i .values)
+
+abbrev pub TrimmedPart : Input → ℕ → List ℕ → Type 0
+TrimmedPart i = Trimmed (i .ruleSet) (i .heap) (domainOf i) (i .predicate) (i .values)
+
+-- The same for the whole heap.
 abbrev pub CertificateInput : Input → List ℕ → Type 0
-CertificateInput i words = Certificate (i .ruleSet) (i .heap) (domainOf i) (i .predicate) (i .values) (wholeOf (i .heap)) words
+CertificateInput i = CertificatePart i (wholeOf (i .heap))
 
 abbrev pub TrimmedInput : Input → List ℕ → Type 0
-TrimmedInput i words = Trimmed (i .ruleSet) (i .heap) (domainOf i) (i .predicate) (i .values) (wholeOf (i .heap)) words
+TrimmedInput i = TrimmedPart i (wholeOf (i .heap))
 
 -- ---- refusals 10 and 11
 
@@ -70,8 +81,8 @@ abbrev pub refusalReply : ℕ → Reply
 refusalReply n = record { refusal = n; verdict = 0; facts = 0; rounds = 0; lines = 0 }
 
 -- What a refusal before the answer leaves: the reply of its number, and all lent memory as it was found.
-pub record Refuses (reply : Reply) (table space table′ space′ : List ℕ) (n : ℕ) : Type 0 where
-  pub is-reply : reply ≡ refusalReply n
+pub record Refuses {R : Type 0} (refused : ℕ → R) (reply : R) (table space table′ space′ : List ℕ) (n : ℕ) : Type 0 where
+  pub is-reply : reply ≡ refused n
   pub same-table : table′ ≡ table
   pub same-space : space′ ≡ space
 
@@ -89,21 +100,53 @@ pub data Answers (i : Input) (n : ℕ) (reply : Reply) (table space : List ℕ) 
 -- The contract of `decide`: from bytes and lent memory to the reply and that memory afterwards.
 abbrev pub Decided : (book snapshot question table space : List ℕ) (reply : Reply) (table′ space′ : List ℕ) → Type 0
 Decided book snapshot question table space reply table′ space′ =
-    Served (λ (r : Result Input). ladder book snapshot question ≡ r) (Lent (length table) (length space)) (Refuses reply table space table′ space′)
+    Served (λ (r : Result Input). ladder book snapshot question ≡ r) (Lent (length table) (length space)) (Refuses refusalReply reply table space table′ space′)
     (λ (i : Input). Answers i (length table) reply table′ space′)
+
+-- ---- the engine, asked about some part
+
+abbrev pub refusalPartReply : ℕ → PartReply
+refusalPartReply n = record { refusal = n; verdict = 0; part = 0; facts = 0; rounds = 0; lines = 0 }
+
+-- The reply without its part: the numbers that `decide` replies.
+abbrev pub withoutPart : PartReply → Reply
+withoutPart r = record { refusal = r .refusal; verdict = r .verdict; facts = r .facts; rounds = r .rounds; lines = r .lines }
+
+-- The answer: a part that fits, with a certificate that ends in it, or that no part does. Part and certificate are the program's choice,
+-- among all parts that fit and all certificates of the engine's kind; nothing else is.
+pub data Finds (i : Input) (n : ℕ) (reply : PartReply) (table space : List ℕ) : Type 0 where
+  over : MoreFactsThan i n → reply ≡ refusalPartReply tooManyFacts → table ≡ zeros n → space ≡ zeros (3 * n) → Finds i n reply table space
+  some : (part rounds : ℕ) (facts words : List ℕ) → FilledInput i n rounds facts table → FitsPart i part → (u : TrimmedPart i part words)
+      → reply ≡ record { refusal = 0; verdict = 1; part = part; facts = length facts; rounds = rounds; lines = u .taken .count }
+      → space ≡ padded (3 * n) words → Finds i n reply table space
+  none : (rounds : ℕ) (facts : List ℕ) → FilledInput i n rounds facts table → ((part : ℕ) → ¬ FitsPart i part)
+      → reply ≡ record { refusal = 0; verdict = 0; part = 0; facts = length facts; rounds = rounds; lines = 0 }
+      → space ≡ zeros (3 * n) → Finds i n reply table space
+
+-- The contract of `find`.
+abbrev pub Found : (book snapshot question table space : List ℕ) (reply : PartReply) (table′ space′ : List ℕ) → Type 0
+Found book snapshot question table space reply table′ space′ =
+    Served (λ (r : Result Input). ladder book snapshot question ≡ r) (Lent (length table) (length space)) (Refuses refusalPartReply reply table space table′ space′)
+    (λ (i : Input). Finds i (length table) reply table′ space′)
 
 -- ---- the check
 
--- The check's answer to what was read: whether the words meet the conditions for lines.
-pub data Checks (i : Input) (words : List ℕ) (reply : CheckReply) : Type 0 where
-  takes : CertificateInput i words → reply ≡ record { refusal = 0; taken = 1 } → Checks i words reply
-  takes-not : ¬ CertificateInput i words → reply ≡ record { refusal = 0; taken = 0 } → Checks i words reply
+-- The check's answer to what was read: whether the words meet the conditions for lines, the last line with exactly this part.
+pub data Checks (i : Input) (part : ℕ) (words : List ℕ) (reply : CheckReply) : Type 0 where
+  takes : CertificatePart i part words → reply ≡ record { refusal = 0; taken = 1 } → Checks i part words reply
+  takes-not : ¬ CertificatePart i part words → reply ≡ record { refusal = 0; taken = 0 } → Checks i part words reply
 
--- The contract of `check`, which is lent nothing to change.
-abbrev pub Checked : (book snapshot question words : List ℕ) (reply : CheckReply) → Type 0
-Checked book snapshot question words reply =
+-- The contracts of `check` and `check_part`, which are lent nothing to change: with every record, and with a part that is handed in.
+abbrev pub CheckedFor : (book snapshot question : List ℕ) (part : Input → ℕ) (words : List ℕ) (reply : CheckReply) → Type 0
+CheckedFor book snapshot question part words reply =
     Served (λ (r : Result Input). ladder book snapshot question ≡ r) (Unit {0}) (λ (n : ℕ). reply ≡ record { refusal = n; taken = 0 })
-    (λ (i : Input). Checks i words reply)
+    (λ (i : Input). Checks i (part i) words reply)
+
+abbrev pub Checked : (book snapshot question words : List ℕ) (reply : CheckReply) → Type 0
+Checked book snapshot question = CheckedFor book snapshot question (λ (i : Input). wholeOf (i .heap))
+
+abbrev pub CheckedPart : (book snapshot question : List ℕ) (part : ℕ) (words : List ℕ) (reply : CheckReply) → Type 0
+CheckedPart book snapshot question part = CheckedFor book snapshot question (λ (i : Input). part)
 
 -- ---- the desk's two entries
 

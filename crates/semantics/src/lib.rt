@@ -14,6 +14,16 @@ pub struct Reply {
     pub lines: u64,
 }
 
+// The reply to the question whether some part fits: the part's records as bits, 0 on does not fit.
+pub struct PartReply {
+    pub refusal: u64,
+    pub verdict: u64,
+    pub part: u16,
+    pub facts: u64,
+    pub rounds: u64,
+    pub lines: u64,
+}
+
 // The reply of the certificate check: taken is 1 or 0.
 pub struct CheckReply {
     pub refusal: u64,
