@@ -5,7 +5,7 @@ A line of the text is a block with a name, or a case; an indented line goes on w
 
     NAME: bytes
     text | operation | book | snapshot | question
-    text | check | book | snapshot | question | words
+    text | check or check-part | book | snapshot | question | words
 
 Bytes are in base sixteen. (n) is the number n in four bytes, the lowest first; a NAME stands for its block, NAME[:n] for the first n bytes
 of it, and 00*n for n such bytes. Words are 64-bit numbers in base sixteen.
@@ -24,6 +24,8 @@ is printed of the operation, a byte of 128 or more is the place of a number that
     lend T S        the engine, with T words of table and S of unfolding space, and how many of them are not 0 afterwards. Words 0 T S
     last T S        the same, with the last fact of the table in place of those
     check           the check of the words, which follow on a word 1
+    find T S        as lend, asked about some part, and whether the check takes what was written. Words 2 T S; 1024 3072 where none are given
+    check-part P    the check of the words for a part, in base sixteen. They follow on a word 3 and the part
     damage          the check of the engine's certificate, whole and damaged. No words
 """
 import re
@@ -36,6 +38,8 @@ PRINTED = {
     "lend": REPLY + ", left: table @5 space @6",
     "last": REPLY + ", last fact @7",
     "check": "refusal @0 taken @1",
+    "find": "refusal @0 verdict @1 part @2 facts @3 rounds @4 lines @5, taken @8, left: table @6 space @7",
+    "check-part": "refusal @0 taken @1",
     "damage": "whole @0, bits @1 of @2, words @3 of @4, a line less @5, a word less @6, a line of 0 more @7, the last line again @8",
 }
 SPOILT = 0xC8
@@ -81,10 +85,10 @@ def cases(text, operation, blocks, words):
     kind, *lent = operation
     if kind == "damage":
         tried = []
-    elif kind == "check":
-        tried = [1] + [int(word, 16) for word in words]
+    elif kind in ("check", "check-part"):
+        tried = [3 if lent else 1] + [int(word, 16) for word in lent + words]
     else:
-        tried = [0] + ([int(number) for number in lent] or [1024, 3072])
+        tried = [2 * (kind == "find")] + ([int(number) for number in lent] or [1024, 3072])
     line = re.sub(rb"@(\d)", lambda m: bytes([128 + int(m[1])]), f"{text}: {PRINTED[kind]}\n".encode())
     packed = b"".join(word.to_bytes(8, "little") for word in tried)
     return b"".join(map(section, [line, packed, *blocks]))

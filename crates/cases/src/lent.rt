@@ -15,7 +15,7 @@ fn last(table: &[u64], facts: u64) -> u64 {
 }
 
 // How many of the words are not 0.
-fn used(words: &[u64]) -> usize
+pub(crate) fn used(words: &[u64]) -> usize
     ensures { λ r. ⌜ r ≤ length (now (words .entry)) ⌝ }
 {
     let mut n = 0;

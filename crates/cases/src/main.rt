@@ -3,6 +3,7 @@
 // sections of an input of the bench program. In the text a byte of 128 or more is the place of a number that was found.
 mod damage;
 mod lent;
+mod parts;
 
 ghost use Prim.Native.Nat.{_+_, _≤_};
 ghost use lib.ListN.{length};
@@ -62,7 +63,7 @@ fn check(input: &[u8], words: &[u64]) -> CheckReply {
 }
 
 // Tries what the words say. No words: the engine's own certificate, damaged. A word 0: the engine, with the memory that two words more say.
-// A word 1: the check of the words after it.
+// A word 1: the check of the words after it. Another word: what is asked about a part.
 fn tried(words: &[u64], input: &[u8]) -> [u64; 9] {
     if words.len() < 3 {
         return damage::certified(input);
@@ -70,8 +71,11 @@ fn tried(words: &[u64], input: &[u8]) -> [u64; 9] {
     if words[0] == 0 {
         return lent::lend(input, words[1] as usize, words[2] as usize);
     }
-    let reply = check(input, &words[1..]);
-    [reply.refusal, reply.taken, 0, 0, 0, 0, 0, 0, 0]
+    if words[0] == 1 {
+        let reply = check(input, &words[1..]);
+        return [reply.refusal, reply.taken, 0, 0, 0, 0, 0, 0, 0];
+    }
+    parts::tried(input, words)
 }
 
 // Prints the text, with the numbers at their places.
