@@ -1,9 +1,10 @@
-//! The public calls: engine and check, the two desk entries, and the bench
-//! program.
+//! The public calls: engine and check, about the whole pool or some part of it,
+//! the two desk entries, and the bench program.
 
 use crate::domain::Domain;
-use crate::formats::{self, Refusal};
-use crate::{certificate, check as conditions, fixpoint, verdict};
+use crate::fixpoint::{self, Facts};
+use crate::formats::{self, Problem, Refusal};
+use crate::{certificate, check as conditions, fact, verdict};
 
 #[derive(Clone, Copy, Debug, Default, PartialEq, Eq)]
 pub struct Reply {
@@ -14,11 +15,33 @@ pub struct Reply {
     pub lines: usize,
 }
 
-impl Reply {
-    fn refused(refusal: Refusal) -> Reply {
-        Reply {
+/// The reply about some part.
+#[derive(Clone, Copy, Debug, Default, PartialEq, Eq)]
+pub struct PartReply {
+    pub refusal: u32,
+    pub verdict: u32,
+    /// Bit i for record i. With verdict 1, 0 is the empty part.
+    pub part: u16,
+    pub facts: usize,
+    pub rounds: usize,
+    pub lines: usize,
+}
+
+impl PartReply {
+    fn refused(refusal: Refusal) -> PartReply {
+        PartReply {
             refusal: refusal.number(),
-            ..Reply::default()
+            ..PartReply::default()
+        }
+    }
+
+    fn without_part(self) -> Reply {
+        Reply {
+            refusal: self.refusal,
+            verdict: self.verdict,
+            facts: self.facts,
+            rounds: self.rounds,
+            lines: self.lines,
         }
     }
 }
@@ -30,10 +53,24 @@ pub struct Memory {
     pub space: Vec<u64>,
 }
 
+impl Memory {
+    fn copy_to(&self, table: &mut [u64], space: &mut [u64]) {
+        table.copy_from_slice(&self.table);
+        space.copy_from_slice(&self.space);
+    }
+}
+
 #[derive(Clone, Debug, PartialEq, Eq)]
 pub struct Outcome {
     pub reply: Reply,
     /// Nothing if the memory was left as found (refusals 1 to 10).
+    pub memory: Option<Memory>,
+}
+
+#[derive(Clone, Debug, PartialEq, Eq)]
+pub struct PartOutcome {
+    pub reply: PartReply,
+    /// As for the whole pool.
     pub memory: Option<Memory>,
 }
 
@@ -47,8 +84,44 @@ pub fn decide(
     table_lines: usize,
     space_words: usize,
 ) -> Outcome {
-    let as_found = |refusal| Outcome {
-        reply: Reply::refused(refusal),
+    let whole = |problem: &Problem, domain: &Domain, facts: &Facts| {
+        verdict::fits(problem, domain, facts).then(|| fact::all_records(problem))
+    };
+    let outcome = run(book, snapshot, question, table_lines, space_words, whole);
+    Outcome {
+        reply: outcome.reply.without_part(),
+        memory: outcome.memory,
+    }
+}
+
+/// The engine about some part: of those that fit, the one with the smallest
+/// number.
+pub fn decide_part(
+    book: &[u8],
+    snapshot: &[u8],
+    question: &[u8],
+    table_lines: usize,
+    space_words: usize,
+) -> PartOutcome {
+    let some = |problem: &Problem, domain: &Domain, facts: &Facts| {
+        let parts = verdict::fitting_parts(problem, domain, &facts.table);
+        parts.first().copied()
+    };
+    run(book, snapshot, question, table_lines, space_words, some)
+}
+
+/// What both have in common. They differ only in the part they choose, if any,
+/// once all facts are there.
+fn run(
+    book: &[u8],
+    snapshot: &[u8],
+    question: &[u8],
+    table_lines: usize,
+    space_words: usize,
+    choose: impl Fn(&Problem, &Domain, &Facts) -> Option<u16>,
+) -> PartOutcome {
+    let as_found = |refusal| PartOutcome {
+        reply: PartReply::refused(refusal),
         memory: None,
     };
     let problem = match formats::read(book, snapshot, question) {
@@ -65,24 +138,26 @@ pub fn decide(
     };
     let domain = Domain::of(&problem);
     let Some(facts) = fixpoint::facts(&problem, &domain, table_lines) else {
-        return Outcome {
-            reply: Reply::refused(Refusal::TableFull),
+        return PartOutcome {
+            reply: PartReply::refused(Refusal::TableFull),
             memory: Some(memory),
         };
     };
     memory.table[..facts.table.len()].copy_from_slice(&facts.table);
-    let mut reply = Reply {
+    let mut reply = PartReply {
         facts: facts.table.len(),
         rounds: facts.rounds,
-        ..Reply::default()
+        ..PartReply::default()
     };
-    if verdict::fits(&problem, &domain, &facts) {
-        let words = certificate::build(&problem, &domain, &facts).expect("a fit has grounds");
+    if let Some(part) = choose(&problem, &domain, &facts) {
+        let words = certificate::build_part(&problem, &domain, &facts, part);
+        let words = words.expect("a fit has grounds");
         memory.space[..words.len()].copy_from_slice(&words);
         reply.verdict = 1;
+        reply.part = part;
         reply.lines = words.len() / 3;
     }
-    Outcome {
+    PartOutcome {
         reply,
         memory: Some(memory),
     }
@@ -98,8 +173,22 @@ pub fn decide_lent(
 ) -> Reply {
     let outcome = decide(book, snapshot, question, table.len(), space.len());
     if let Some(memory) = outcome.memory {
-        table.copy_from_slice(&memory.table);
-        space.copy_from_slice(&memory.space);
+        memory.copy_to(table, space);
+    }
+    outcome.reply
+}
+
+/// The engine about some part, on lent memory.
+pub fn decide_part_lent(
+    book: &[u8],
+    snapshot: &[u8],
+    question: &[u8],
+    table: &mut [u64],
+    space: &mut [u64],
+) -> PartReply {
+    let outcome = decide_part(book, snapshot, question, table.len(), space.len());
+    if let Some(memory) = outcome.memory {
+        memory.copy_to(table, space);
     }
     outcome.reply
 }
@@ -108,6 +197,20 @@ pub fn decide_lent(
 pub fn check(book: &[u8], snapshot: &[u8], question: &[u8], words: &[u64]) -> (u32, u32) {
     match formats::read(book, snapshot, question) {
         Ok(problem) => (0, conditions::takes(&problem, words) as u32),
+        Err(refusal) => (refusal.number(), 0),
+    }
+}
+
+/// The same for an unfolding that should end in this part.
+pub fn check_part(
+    book: &[u8],
+    snapshot: &[u8],
+    question: &[u8],
+    part: u16,
+    words: &[u64],
+) -> (u32, u32) {
+    match formats::read(book, snapshot, question) {
+        Ok(problem) => (0, conditions::takes_part(&problem, part, words) as u32),
         Err(refusal) => (refusal.number(), 0),
     }
 }

@@ -8,7 +8,17 @@ use std::collections::{BTreeSet, HashMap};
 
 /// Three words a line, or nothing if the query does not fit.
 pub fn build(problem: &Problem, domain: &Domain, facts: &Facts) -> Option<Vec<u64>> {
-    let query = fact::of_query(problem, domain);
+    build_part(problem, domain, facts, fact::all_records(problem))
+}
+
+/// The same for the query with this part of the records.
+pub fn build_part(
+    problem: &Problem,
+    domain: &Domain,
+    facts: &Facts,
+    part: u16,
+) -> Option<Vec<u64>> {
+    let query = fact::of_query_with(problem, domain, part);
     if !facts.grounds.contains_key(&query) {
         return None;
     }

@@ -30,7 +30,7 @@ pub enum Broken {
     Disjoint,
     /// The fact's records are not those of cells and calls.
     RecordSet,
-    /// The last line is not the query with all records.
+    /// The last line is not the query with exactly the part asked about.
     LastLine,
 }
 
@@ -40,7 +40,18 @@ pub fn takes(problem: &Problem, words: &[u64]) -> bool {
     first_broken(problem, words).is_ok()
 }
 
+pub fn takes_part(problem: &Problem, part: u16, words: &[u64]) -> bool {
+    first_broken_part(problem, part, words).is_ok()
+}
+
+/// For the whole heap: the part with every record.
 pub fn first_broken(problem: &Problem, words: &[u64]) -> Result<(), Broken> {
+    first_broken_part(problem, fact::all_records(problem), words)
+}
+
+/// A part with a bit beyond the records needs no condition of its own: a line
+/// has only records of cells and calls, so no line has such a bit.
+pub fn first_broken_part(problem: &Problem, part: u16, words: &[u64]) -> Result<(), Broken> {
     let lines = words.len() / 3;
     if !words.len().is_multiple_of(3) || !(1..=MAX_LINES).contains(&lines) {
         return Err(Broken::Lines);
@@ -49,7 +60,7 @@ pub fn first_broken(problem: &Problem, words: &[u64]) -> Result<(), Broken> {
     for number in 1..=lines {
         line(problem, &domain, words, number)?;
     }
-    if words[3 * (lines - 1)] != fact::of_query(problem, &domain) {
+    if words[3 * (lines - 1)] != fact::of_query_with(problem, &domain, part) {
         return Err(Broken::LastLine);
     }
     Ok(())

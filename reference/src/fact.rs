@@ -31,11 +31,16 @@ pub fn all_records(problem: &Problem) -> u16 {
 
 /// The query for the whole heap, as a fact.
 pub fn of_query(problem: &Problem, domain: &Domain) -> u64 {
+    of_query_with(problem, domain, all_records(problem))
+}
+
+/// The query for these records, as a fact.
+pub fn of_query_with(problem: &Problem, domain: &Domain, records: u16) -> u64 {
     let arguments: Vec<usize> = problem
         .query
         .values
         .iter()
         .map(|&value| domain.place(value as u64))
         .collect();
-    pack(problem.query.predicate, &arguments, all_records(problem))
+    pack(problem.query.predicate, &arguments, records)
 }

@@ -3,6 +3,7 @@
 //! table, and the search may use numbers beyond the domain.
 
 use crate::domain::Domain;
+use crate::fact;
 use crate::formats::{Heap, Kind, Problem, Rule, RuleSet, Term};
 use std::collections::BTreeSet;
 
@@ -31,6 +32,11 @@ pub fn records_used(
 
 /// Whether the tree answers the query and takes every record.
 pub fn answers(problem: &Problem, tree: &Tree) -> bool {
+    answers_part(problem, fact::all_records(problem), tree)
+}
+
+/// Whether the tree answers the query and takes the part's records, no others.
+pub fn answers_part(problem: &Problem, part: u16, tree: &Tree) -> bool {
     let used = records_used(
         &problem.rules,
         &problem.heap,
@@ -38,7 +44,11 @@ pub fn answers(problem: &Problem, tree: &Tree) -> bool {
         &query_arguments(problem),
         tree,
     );
-    used.is_some_and(|used| used.len() == problem.heap.records.len())
+    used.is_some_and(|used| part_of(&used) == part)
+}
+
+fn part_of(records: &BTreeSet<usize>) -> u16 {
+    records.iter().fold(0, |part, record| part | 1 << record)
 }
 
 fn query_arguments(problem: &Problem) -> Vec<u64> {
@@ -140,7 +150,7 @@ fn open_line(
 
 #[derive(Clone, Debug, PartialEq, Eq)]
 pub enum Answer {
-    /// A finished tree that takes every record.
+    /// A finished tree that takes the records it should.
     Yes(Tree),
     /// There is none of at most this depth over these numbers.
     NoneFound,
@@ -148,9 +158,47 @@ pub enum Answer {
     OutOfBudget,
 }
 
-/// Looks for a tree of at most `depth` levels, shallow ones first. Numbers
-/// tried for bound variables: the domain and `further` more unused ones.
+/// Looks for a tree that takes every record. It has at most `depth` levels,
+/// shallow ones first. Numbers tried for bound variables: the domain and
+/// `further` more unused ones.
 pub fn search(problem: &Problem, further: usize, depth: usize, budget: u64) -> Answer {
+    let mut every_record = |left: &BTreeSet<usize>| left.is_empty();
+    search_until(problem, further, depth, budget, &mut every_record)
+}
+
+/// Looks for a tree that takes any records, or none.
+pub fn search_part(problem: &Problem, further: usize, depth: usize, budget: u64) -> Answer {
+    search_until(problem, further, depth, budget, &mut |_| true)
+}
+
+/// The parts taken by all the trees there are, ascending; nothing if the budget
+/// runs out first.
+pub fn fitting_parts(
+    problem: &Problem,
+    further: usize,
+    depth: usize,
+    budget: u64,
+) -> Option<Vec<u16>> {
+    let mut parts = BTreeSet::new();
+    let mut note = |left: &BTreeSet<usize>| {
+        parts.insert(fact::all_records(problem) & !part_of(left));
+        false
+    };
+    match search_until(problem, further, depth, budget, &mut note) {
+        Answer::OutOfBudget => None,
+        _ => Some(parts.into_iter().collect()),
+    }
+}
+
+/// Goes through the finished trees until `enough`, which is given the records
+/// not taken.
+fn search_until(
+    problem: &Problem,
+    further: usize,
+    depth: usize,
+    budget: u64,
+    enough: &mut dyn FnMut(&BTreeSet<usize>) -> bool,
+) -> Answer {
     let kept = Domain::of(problem);
     let good = Domain::with_spares(problem, 0);
     let numbers = Domain::with_spares(problem, kept.len() - good.len() + further);
@@ -159,6 +207,7 @@ pub fn search(problem: &Problem, further: usize, depth: usize, budget: u64) -> A
         numbers: numbers.values(),
         budget,
         steps: Vec::new(),
+        enough,
     };
     for depth in 1..=depth {
         let top = Goal {
@@ -193,13 +242,15 @@ struct Search<'a> {
     /// Rule and values of the nodes unfolded so far, each before its own
     /// calls and these from left to right.
     steps: Vec<(usize, Vec<u64>)>,
+    /// Whether to end with the tree just finished, by the records left.
+    enough: &'a mut dyn FnMut(&BTreeSet<usize>) -> bool,
 }
 
 impl Search<'_> {
-    /// Unfolds every goal, the last one first, using up the records left.
+    /// Unfolds every goal, the last one first, using the records left.
     fn agenda(&mut self, goals: &[Goal], left: &BTreeSet<usize>) -> bool {
         let Some((goal, others)) = goals.split_last() else {
-            return left.is_empty();
+            return (self.enough)(left);
         };
         if goal.depth == 0 {
             return false;
