@@ -11,7 +11,6 @@ use reference::fact;
 use reference::fixpoint;
 use reference::naive;
 use reference::tree::{self, Answer};
-use std::collections::BTreeSet;
 
 #[test]
 fn table_against_all_assignments() {
@@ -153,21 +152,6 @@ fn facts_for_the_whole_pool_fit_when_asked() {
         asked > 1000 && found > 900 && spare > 300,
         "{asked} {found} {spare}"
     );
-}
-
-/// What the engine's unfoldings have besides: facts that all differ, and before
-/// the last no line that nothing further down calls.
-fn engine_promises(words: &[u64]) {
-    let lines = words.len() / 3;
-    let facts: BTreeSet<u64> = words.iter().step_by(3).copied().collect();
-    assert_eq!(facts.len(), lines);
-    for line in 1..lines {
-        let called = (line + 1..=lines).any(|later| {
-            let step = words[3 * (later - 1) + 2];
-            (0..3).any(|call| (step >> (8 + 16 * call)) & 0xffff == line as u64)
-        });
-        assert!(called);
-    }
 }
 
 #[test]

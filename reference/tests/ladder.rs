@@ -203,11 +203,26 @@ fn the_first_of_all_faults_counts() {
                         };
                         assert_eq!(outcome.reply, reply);
                     }
+                    let some = api::decide_part(book, snapshot, question, lines, words);
+                    assert_eq!(some.reply.refusal, expected);
+                    assert_eq!(some.memory.is_none(), (1..=10).contains(&expected));
+                    if expected != 0 {
+                        let reply = api::PartReply {
+                            refusal: expected,
+                            ..api::PartReply::default()
+                        };
+                        assert_eq!(some.reply, reply);
+                    }
                 }
                 // The check and both desk entries meet the same faults.
                 let faults = [*first, *second, *third];
                 let expected = faults.into_iter().find(|&fault| fault != 0).unwrap_or(0);
                 assert_eq!(api::check(book, snapshot, question, &[]), (expected, 0));
+                // A part beyond the records is none.
+                for part in [0, 3, 0xffff] {
+                    let checked = api::check_part(book, snapshot, question, part, &[]);
+                    assert_eq!(checked, (expected, 0));
+                }
                 for length in [0, 7, 24, 24_576, 24_577, 24_600] {
                     let bytes = vec![0; length];
                     let desk = api::desk_check(book, snapshot, question, &bytes);

@@ -3,6 +3,7 @@
 
 use reference::api::HOUSE;
 use reference::formats::{self, Problem};
+use std::collections::BTreeSet;
 
 pub fn book_h() -> Vec<u8> {
     HOUSE.to_vec()
@@ -75,6 +76,21 @@ pub fn question(predicate: u8, values: &[u32]) -> Vec<u8> {
 
 pub fn problem(book: &[u8], snapshot: &[u8], question: &[u8]) -> Problem {
     formats::read(book, snapshot, question).expect("no fault")
+}
+
+/// What the engine's unfoldings have besides: facts that all differ, and before
+/// the last no line that nothing further down calls.
+pub fn engine_promises(words: &[u64]) {
+    let lines = words.len() / 3;
+    let facts: BTreeSet<u64> = words.iter().step_by(3).copied().collect();
+    assert_eq!(facts.len(), lines);
+    for line in 1..lines {
+        let called = (line + 1..=lines).any(|later| {
+            let step = words[3 * (later - 1) + 2];
+            (0..3).any(|call| (step >> (8 + 16 * call)) & 0xffff == line as u64)
+        });
+        assert!(called);
+    }
 }
 
 /// A small generator of numbers, the same in every run.
