@@ -30,7 +30,7 @@ BLOCKS = [BYTES, ctypes.c_size_t] * 3
 
 @dataclass(frozen=True)
 class Reply:
-    """`words` has three for each of the lines, and none where there is no unfolding."""
+    """`words` has three for each of the lines, and none where there is no unfolding. `part` is 0 unless some part was asked about."""
 
     refusal: int
     verdict: int = 0
@@ -38,26 +38,31 @@ class Reply:
     rounds: int = 0
     lines: int = 0
     words: tuple[int, ...] = ()
+    part: int = 0
 
 
-def decide(book: bytes, snapshot: bytes, question: bytes, lines: int) -> Reply:
-    """Asks the engine, and lends it a table of that many lines with the space for an unfolding."""
+def decide(book: bytes, snapshot: bytes, question: bytes, lines: int, some_part: bool = False) -> Reply:
+    """Asks the engine about the whole pool or about some part of it, and lends it a table of that many lines with the space for an
+    unfolding."""
     if not 1 <= lines <= MOST_LINES:
         raise ValueError(f"lines: {lines} is not between 1 and {MOST_LINES}")
     table, space = (ctypes.c_uint64 * lines)(), (ctypes.c_uint64 * (3 * lines))()
-    numbers = [ctypes.c_uint64() for _ in range(4)]
+    verdict, facts, rounds, written = (ctypes.c_uint64() for _ in range(4))
+    part = ctypes.c_uint16()
+    numbers = [verdict, part, facts, rounds, written] if some_part else [verdict, facts, rounds, written]
     lent = _blocks(book, snapshot, question) + [table, lines, space, 3 * lines] + [ctypes.byref(number) for number in numbers]
-    refusal = _call(_loaded().shapes_decide, lent)
-    verdict, facts, rounds, written = (number.value for number in numbers)
-    return Reply(refusal, verdict, facts, rounds, written, tuple(space[: 3 * written]))
+    refusal = _call(_loaded().shapes_part if some_part else _loaded().shapes_decide, lent)
+    words = tuple(space[: 3 * written.value])
+    return Reply(refusal, verdict.value, facts.value, rounds.value, written.value, words, part.value)
 
 
-def check(book: bytes, snapshot: bytes, question: bytes, words: Sequence[int]) -> tuple[int, int]:
-    """The refusal, and 1 where the unfolding is taken."""
+def check(book: bytes, snapshot: bytes, question: bytes, words: Sequence[int], part: int | None = None) -> tuple[int, int]:
+    """The refusal, and 1 where the unfolding is taken: for this part, or without one for the whole pool."""
     taken = ctypes.c_uint64()
     # A pointer must not be null even where there is nothing behind it: hence one word at least.
-    lent = (ctypes.c_uint64 * max(1, len(words)))(*words)
-    refusal = _call(_loaded().shapes_check, _blocks(book, snapshot, question) + [lent, len(words), ctypes.byref(taken)])
+    lent = [(ctypes.c_uint64 * max(1, len(words)))(*words), len(words), ctypes.byref(taken)]
+    entry = _loaded().shapes_check if part is None else _loaded().shapes_check_part
+    refusal = _call(entry, _blocks(book, snapshot, question) + ([] if part is None else [part]) + lent)
     return refusal, taken.value
 
 
@@ -94,12 +99,22 @@ def _declared(path: Path) -> ctypes.CDLL:
         if _is_cut(path):
             raise OSError("it is cut short")
         library = ctypes.CDLL(str(path))
-        library.shapes_decide.argtypes = BLOCKS + [WORDS, ctypes.c_size_t] * 2 + [WORDS] * 4
-        library.shapes_check.argtypes = BLOCKS + [WORDS, ctypes.c_size_t, WORDS]
+        for entry, arguments in _entries(library):
+            entry.argtypes, entry.restype = arguments, ctypes.c_uint64
     except (OSError, AttributeError) as fault:
         raise Unusable(f"cannot be used: {fault}; delete it, and it is made again", shown(path)) from fault
-    library.shapes_decide.restype = library.shapes_check.restype = ctypes.c_uint64
     return library
+
+
+def _entries(library: ctypes.CDLL) -> list:
+    """Each entry with what it takes, as include/shapes.h declares it."""
+    words = [WORDS, ctypes.c_size_t]
+    return [
+        (library.shapes_decide, BLOCKS + words * 2 + [WORDS] * 4),
+        (library.shapes_part, BLOCKS + words * 2 + [WORDS, ctypes.POINTER(ctypes.c_uint16)] + [WORDS] * 3),
+        (library.shapes_check, BLOCKS + words + [WORDS]),
+        (library.shapes_check_part, BLOCKS + [ctypes.c_uint16] + words + [WORDS]),
+    ]
 
 
 def _is_cut(path: Path) -> bool:

@@ -33,6 +33,10 @@ TWO_BYTES = bytes.fromhex("02 0A000000 01 14000000 14000000 01 0A000000")
 FROM_TEN_TO_TEN = Question(0, (10, 10))
 FROM_TEN_TO_TEN_BYTES = bytes.fromhex("00 02 0A000000 0A000000")
 
+# Which fits no more than the first of the two records.
+FROM_TEN_TO_TWENTY = Question(0, (10, 20))
+FROM_TEN_TO_TWENTY_BYTES = bytes.fromhex("00 02 0A000000 14000000")
+
 NOTHING = Pool(())
 NOTHING_BYTES = bytes([0])
 
@@ -41,4 +45,10 @@ TWO_WORDS = (
     4 << 16 | 4 << 23, 4 | 4 << 8, 0,
     1 << 1 | 5 << 16 | 4 << 23, 5 | 4 << 8 | 4 << 16, 1 | 1 << 8,
     1 << 0 | 1 << 1 | 4 << 16 | 4 << 23, 4 | 4 << 8 | 5 << 16, 1 | 2 << 8,
+)  # fmt: skip
+
+# The lines of segment(10, 20) over the record 10 alone, with the same kept values.
+TEN_WORDS = (
+    5 << 16 | 5 << 23, 5 | 5 << 8, 0,
+    1 << 0 | 4 << 16 | 5 << 23, 4 | 5 << 8 | 5 << 16, 1 | 1 << 8,
 )  # fmt: skip

@@ -9,7 +9,9 @@ from unittest import mock
 
 from workbench import library
 from workbench.mistake import Unusable
-from workbench.tests.engine_samples import FROM_TEN_TO_TEN_BYTES, L_BYTES, NOTHING_BYTES, S_BYTES, TWO_BYTES, TWO_WORDS
+from workbench.tests.engine_samples import (
+    FROM_TEN_TO_TEN_BYTES, FROM_TEN_TO_TWENTY_BYTES, L_BYTES, NOTHING_BYTES, S_BYTES, TEN_WORDS, TWO_BYTES, TWO_WORDS,
+)  # fmt: skip
 
 
 class Calls(unittest.TestCase):
@@ -19,8 +21,7 @@ class Calls(unittest.TestCase):
         self.assertEqual(reply.words, TWO_WORDS)
 
     def test_does_not_fit(self):
-        question = bytes.fromhex("00 02 0A000000 14000000")
-        self.assertEqual(library.decide(L_BYTES, TWO_BYTES, question, 1024), library.Reply(0, 0, 10, 3, 0, ()))
+        self.assertEqual(library.decide(L_BYTES, TWO_BYTES, FROM_TEN_TO_TWENTY_BYTES, 1024), library.Reply(0, 0, 10, 3, 0, ()))
 
     def test_spares(self):
         reply = library.decide(S_BYTES, NOTHING_BYTES, bytes.fromhex("00 01 00000000"), 1024)
@@ -50,6 +51,34 @@ class Calls(unittest.TestCase):
         self.assertEqual(library.check(*asked, TWO_WORDS[:-1]), (0, 0))
         self.assertEqual(library.check(*asked, ()), (0, 0))
         self.assertEqual(library.check(b"", TWO_BYTES, FROM_TEN_TO_TEN_BYTES, TWO_WORDS), (1, 0))
+
+
+class Parts(unittest.TestCase):
+    def test_fits_with_its_part(self):
+        reply = library.decide(L_BYTES, TWO_BYTES, FROM_TEN_TO_TWENTY_BYTES, 1024, some_part=True)
+        self.assertEqual((reply.refusal, reply.verdict, reply.part, reply.facts, reply.rounds, reply.lines), (0, 1, 1, 10, 3, 2))
+        self.assertEqual(reply.words, TEN_WORDS)
+
+    def test_the_empty_part(self):
+        reply = library.decide(L_BYTES, TWO_BYTES, bytes.fromhex("00 02 1E000000 1E000000"), 1024, some_part=True)
+        self.assertEqual((reply.refusal, reply.verdict, reply.part, reply.lines), (0, 1, 0, 1))
+
+    def test_no_part(self):
+        reply = library.decide(L_BYTES, TWO_BYTES, bytes.fromhex("00 02 0A000000 1E000000"), 1024, some_part=True)
+        self.assertEqual((reply.refusal, reply.verdict, reply.part, reply.words), (0, 0, 0, ()))
+
+    def test_refusals(self):
+        asked = TWO_BYTES, FROM_TEN_TO_TWENTY_BYTES
+        self.assertEqual(library.decide(L_BYTES[:-1], *asked, 1024, some_part=True), library.Reply(1))
+        self.assertEqual(library.decide(L_BYTES, *asked, 9, some_part=True), library.Reply(11))
+
+    def test_check(self):
+        asked = L_BYTES, TWO_BYTES, FROM_TEN_TO_TWENTY_BYTES
+        # Record 10, no record, both, and a third one that is not there.
+        self.assertEqual([library.check(*asked, TEN_WORDS, part) for part in (1, 0, 3, 5)], [(0, 1), (0, 0), (0, 0), (0, 0)])
+        self.assertEqual(library.check(*asked, TEN_WORDS), (0, 0))
+        self.assertEqual(library.check(L_BYTES, TWO_BYTES, FROM_TEN_TO_TEN_BYTES, TWO_WORDS, 3), (0, 1))
+        self.assertEqual(library.check(b"", *asked[1:], TEN_WORDS, 1), (1, 0))
 
 
 class Making(unittest.TestCase):
