@@ -5,6 +5,7 @@ from dataclasses import dataclass
 
 from workbench.mistake import Mistake
 from workbench.model import Book, Pool, Question, Rule
+from workbench.part import part_of
 
 WORDS_PER_LINE = 3
 BYTES_PER_WORD = 8
@@ -110,7 +111,7 @@ def _values(number: int, positions: list[int], kept: tuple[int, ...]) -> tuple[i
 def _addresses(number: int, records: int, pool: Pool) -> tuple[int, ...]:
     if records >> len(pool.records):
         raise Mistake(f"line {number} of the unfolding has record {records.bit_length()}, and the pool has only {len(pool.records)}")
-    return tuple(record.address for i, record in enumerate(pool.records) if records >> i & 1)
+    return part_of(records, pool).records
 
 
 def _calls(number: int, word: int, rule: Rule) -> tuple[int, ...]:
