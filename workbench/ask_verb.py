@@ -1,14 +1,15 @@
 """The verb `ask`: one pool with its grounds, or several with a row for each."""
 
+import shlex
 from argparse import ArgumentParser
 from collections.abc import Callable
 
 from workbench import report_json
-from workbench.asking import DOES_NOT_FIT, FITS, Answer, Asked, ask
+from workbench.asking import DOES_NOT_FIT, FITS, Answer, Asked, ask, ask_next
 from workbench.mistake import Mistake, Unusable, printable
 from workbench.operands import one_standard_input, parsed, parser, read_noted_book, read_question
 from workbench.output import complain, say, write_file
-from workbench.render import answer_text, short_text, sum_text
+from workbench.render import answer_text, next_text, short_text, sum_text
 from workbench.sources import read_pool, source_name
 from workbench.status import FAULT, NO, YES
 from workbench.unfolding import words_to_bytes
@@ -17,11 +18,13 @@ from workbench.unfolding import words_to_bytes
 def _parser() -> ArgumentParser:
     made = parser(
         "ask",
-        "BOOK POOL [POOL ...] QUESTION [--json] [--save FILE]",
+        "BOOK POOL [POOL ...] QUESTION [--part] [--json] [--save FILE]",
         "Says whether a pool fits: with an unfolding where it does, with hints on where to look where it does not.\n"
-        "Status 0: every pool fits; 1: some do not; 2: a refusal, or something cannot be read or written.",
+        "With --part, whether some part of its records does, and which one. Status 0: every pool fits, or a part of each;\n"
+        "1: some do not; 2: a refusal, or something cannot be read or written.",
         "./shapes ask examples/segment.book examples/segment.pool 'segment(10, nil)'",
     )
+    made.add_argument("--part", action="store_true", help="ask about some part of the records instead of all")
     made.add_argument("--json", action="store_true", help="print JSON, for other programs")
     made.add_argument("--save", metavar="FILE", help="write the unfolding of the one pool to FILE, which `check` takes")
     return made
@@ -40,10 +43,12 @@ def ask_verb(arguments: list[str]) -> int:
 
         def answer_about(pool_file: str) -> Answer:
             pool, pool_bytes, _ = read_pool(pool_file)
-            return ask(Asked(book_bytes, pool_bytes, question_bytes, book, pool, question))
+            return ask(Asked(book_bytes, pool_bytes, question_bytes, book, pool, question, options.part))
 
+        if not options.json and len(pool_files) == 1:
+            return _ask_one(options.operands, answer_about, options.save)
         if not options.json:
-            return _ask_one(pool_files[0], answer_about, options.save) if len(pool_files) == 1 else _ask_many(pool_files, answer_about)
+            return _ask_many(pool_files, answer_about, options.part)
         status, results = _ask_json(pool_files, answer_about, options.save)
     except Mistake as mistake:
         if not options.json:
@@ -51,19 +56,32 @@ def ask_verb(arguments: list[str]) -> int:
         # Whoever reads JSON gets an object then too.
         complain(mistake)
         status, results = FAULT, [report_json.not_read(source_name(file), mistake) for file in pool_files]
-    say(report_json.report(source_name(book_file), book, question, results))
+    say(report_json.report(source_name(book_file), book, question, options.part, results))
     return status
 
 
-def _ask_one(pool_file: str, answer_about: Callable[[str], Answer], save: str | None) -> int:
-    answer = answer_about(pool_file)
+def _ask_one(operands: list[str], answer_about: Callable[[str], Answer], save: str | None) -> int:
+    answer = answer_about(operands[1])
     saved = _save(answer, save)
     say(answer_text(answer))
+    # After the answer, which need not wait for it.
+    found = ask_next(answer)
+    if found:
+        say(next_text(found, _part_command(operands)))
     return max(saved, status_of([answer.kind]))
 
 
-def _ask_many(pool_files: list[str], answer_about: Callable[[str], Answer]) -> int:
-    """One row for each pool, as soon as it is there."""
+def _part_command(operands: list[str]) -> str:
+    """What a person copies to see the part. A file's name must not be taken for an option there, nor be one that does not print."""
+    files = [f"./{operand}" if operand.startswith("-") and operand != "-" else operand for operand in operands]
+    line = shlex.join(["./shapes", "ask", "--part", *files])
+    if not line.isprintable():
+        return "ask the same with --part"
+    return line + "  # with the same standard input" * ("-" in operands)
+
+
+def _ask_many(pool_files: list[str], answer_about: Callable[[str], Answer], some_part: bool) -> int:
+    """One row for each pool, as soon as it is there. A row has no room for hints, so nothing is asked for their sake."""
     names = [printable(source_name(file)) for file in pool_files]
     kinds = []
     for file, name in zip(pool_files, names):
@@ -77,7 +95,7 @@ def _ask_many(pool_files: list[str], answer_about: Callable[[str], Answer]) -> i
             complain(mistake)
         kinds.append(kind)
         say(f"{name.ljust(max(map(len, names)))}   {words}\n")
-    say(sum_text(kinds) + "\n")
+    say(sum_text(kinds, some_part) + "\n")
     return status_of(kinds)
 
 
@@ -87,7 +105,7 @@ def _ask_json(pool_files: list[str], answer_about: Callable[[str], Answer], save
         try:
             answer = answer_about(file)
             saved = _save(answer, save)
-            results.append(report_json.result(source_name(file), answer))
+            results.append(report_json.result(source_name(file), answer, ask_next(answer)))
         except Unusable:
             raise
         except Mistake as mistake:
@@ -101,7 +119,7 @@ def _save(answer: Answer, save: str | None) -> int:
     if save is None:
         return YES
     if answer.kind != FITS:
-        complain(f"nothing is written to {save}: only a pool that fits has an unfolding")
+        complain(f"nothing is written to {save}: only a {'part' if answer.asked.some_part else 'pool'} that fits has an unfolding")
         return YES
     try:
         write_file(save, words_to_bytes(answer.reply.words))

@@ -1,12 +1,13 @@
 """One pool asked about: what goes to the engine, and what comes back from it in the book's own names."""
 
-from dataclasses import dataclass
+from dataclasses import dataclass, replace
 
 from workbench import library
 from workbench.book_bytes import explain_book
-from workbench.hints import Hints, hints
+from workbench.hints import Hints, hints, part_hints
 from workbench.mistake import Mistake
 from workbench.model import Book, Pool, Question
+from workbench.part import Part, part_of
 from workbench.pool_bytes import explain_pool
 from workbench.unfolding import Line, read_lines
 
@@ -20,7 +21,8 @@ REFUSED = "refused"
 
 @dataclass(frozen=True)
 class Asked:
-    """Each part as bytes, which the engine gets, and as it reads, or None where the bytes are not well-formed."""
+    """Book, pool and question as bytes, which the engine gets, and as they read, or None where the bytes are not well-formed. It is about
+    the whole pool or about some part of it."""
 
     book_bytes: bytes
     pool_bytes: bytes
@@ -28,17 +30,20 @@ class Asked:
     book: Book | None
     pool: Pool | None
     question: Question | None
+    some_part: bool = False
 
 
 @dataclass(frozen=True)
 class Answer:
-    """`lines` are there where the pool fits, `hints` where it does not, and `detail` where bytes are refused: the first at fault."""
+    """`lines` are there where the pool or a part fits, `hints` where neither does, and `detail` where bytes are refused: the first at
+    fault. `part` is the one that fits, where some part was asked about."""
 
     asked: Asked
     reply: library.Reply
     lines: tuple[Line, ...] = ()
     hints: Hints = Hints()
     detail: str = ""
+    part: Part | None = None
 
     @property
     def kind(self) -> str:
@@ -54,14 +59,26 @@ def ask(asked: Asked) -> Answer:
     if asked.book is None or asked.pool is None or asked.question is None:
         raise Mistake("the library reads what the workbench could not: they are not of one version")
     if not reply.verdict:
-        return Answer(asked, reply, hints=hints(asked.pool, asked.question))
-    return Answer(asked, reply, tuple(read_lines(reply.words, asked.book, asked.pool, asked.question)))
+        return Answer(asked, reply, hints=(part_hints if asked.some_part else hints)(asked.pool, asked.question))
+    lines = tuple(read_lines(reply.words, asked.book, asked.pool, asked.question))
+    return Answer(asked, reply, lines, part=part_of(reply.part, asked.pool) if asked.some_part else None)
+
+
+def ask_next(answer: Answer) -> Answer | None:
+    """What to try where the whole pool does not fit: the answer about some part of it."""
+    if answer.kind != DOES_NOT_FIT or answer.asked.some_part:
+        return None
+    found = ask(replace(answer.asked, some_part=True))
+    # The same table was long enough before. Were there a refusal all the same, the pool has its answer already.
+    return None if found.kind == REFUSED else found
 
 
 def _reply(asked: Asked) -> library.Reply:
-    blocks = asked.book_bytes, asked.pool_bytes, asked.question_bytes
-    reply = library.decide(*blocks, FIRST_LINES)
-    return library.decide(*blocks, library.MOST_LINES) if reply.refusal == TABLE_TOO_SHORT else reply
+    def with_table(lines: int) -> library.Reply:
+        return library.decide(asked.book_bytes, asked.pool_bytes, asked.question_bytes, lines, asked.some_part)
+
+    reply = with_table(FIRST_LINES)
+    return with_table(library.MOST_LINES) if reply.refusal == TABLE_TOO_SHORT else reply
 
 
 def detail(asked: Asked) -> str:

@@ -13,7 +13,7 @@ from workbench.wording import nearest
 
 USAGE = """usage: ./shapes VERB ...
 
-  ask     whether a pool fits a shape, and why or where to look
+  ask     whether a pool or a part of it fits a shape, and why or where to look
   check   whether an unfolding that came with an answer holds
   draw    the pool as a picture
   encode  text to the bytes that the engine and the bench program take

@@ -3,7 +3,7 @@ says nothing about the verdict."""
 
 from collections import Counter
 from collections.abc import Iterable
-from dataclasses import dataclass
+from dataclasses import dataclass, replace
 
 from workbench.model import Pool, Question
 
@@ -76,6 +76,13 @@ def hints(pool: Pool, question: Question) -> Hints:
             Outside(i, value) for i, value in enumerate(question.values, 1) if value and value not in addresses
         ),
     )
+
+
+def part_hints(pool: Pool, question: Question) -> Hints:
+    """Where no part fits: of the records to which the question's values lead alone. A part may leave the others out, so that neither they
+    nor what they hold are a reason; none of those looked at is unreached."""
+    reached = reached_from(question.values, pool)
+    return hints(replace(pool, records=tuple(record for record in pool.records if record.address in reached)), question)
 
 
 def _places(pool: Pool) -> dict[int, list[Place]]:

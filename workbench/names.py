@@ -7,7 +7,7 @@ from workbench.unfolding import Line, known_values
 
 
 class Names:
-    """For an asked question whose three parts are well-formed."""
+    """For an asked question whose book, pool and question are well-formed."""
 
     def __init__(self, asked: Asked):
         assert asked.book and asked.pool and asked.question

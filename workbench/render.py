@@ -1,4 +1,4 @@
-"""Answers as text for people. What it says of verdict and tree is the engine's; hints are the workbench's own, and it says so."""
+"""Answers as text for people. What it says of verdict, part and tree is the engine's; hints are the workbench's own, and it says so."""
 
 from collections.abc import Iterable
 
@@ -7,18 +7,60 @@ from workbench.hints import Hints, Place, Unreached
 from workbench.names import Names
 from workbench.refusals import sentence
 from workbench.unfolding import Node, tree
+from workbench.wording import count
 
 # Deeper nodes stand no further to the right and have their depth in front.
 MOST_INDENTED = 30
 HINTS_AHEAD = "Hints on where to look. They come from the pool and the question's values alone; the verdict is the engine's."
+NO_HINTS = (
+    "No hints: every field and every value of the question is nil or names a record, no record is held in two places, and the",
+    "question's values lead to every record.",
+)
+PART_HINTS_AHEAD = (
+    "Hints on where to look. They come from the question's values and the records to which these lead; the verdict is the engine's."
+)
+NO_PART_HINTS = (
+    "No hints: every value of the question and every field of the records to which these lead is nil or names a record, and none of",
+    "these records is held in two places.",
+)
+NO_FIND = "the question holds without any record, which says nothing about the pool; a shape that needs a record tells more"
 ORDINALS = ("first", "second", "third", "fourth")
 
 
 def answer_text(answer: Answer) -> str:
     if answer.kind == REFUSED:
         return refusal_text(answer.reply.refusal, answer.detail) + "\n"
-    rows = _tree_rows(answer) if answer.kind == FITS else _hint_rows(answer)
-    return "".join(row + "\n" for row in [answer.kind, *rows])
+    rows = _part_rows(answer) + _tree_rows(answer) if answer.kind == FITS else _hint_rows(answer)
+    return "".join(row + "\n" for row in [verdict(answer), *rows])
+
+
+def verdict(answer: Answer) -> str:
+    """A few words for an answer that is no refusal."""
+    if not answer.asked.some_part:
+        return answer.kind
+    if answer.part is None:
+        return "no part fits, not even the empty one"
+    return "a part fits" if answer.part.records else "the empty part fits"
+
+
+def next_text(found: Answer, command: str) -> str:
+    """What is said of the answer about some part where the whole pool does not fit. The command shows the unfolding of that part."""
+    if found.part is None:
+        return "No part of it fits either, not even the empty one.\n"
+    if not found.part.records:
+        return f"The empty part fits: {NO_FIND}.\n"
+    rows = ["A part of it fits, as the engine finds:", *_part_rows(found, ["  its unfolding", command])]
+    return "".join(row + "\n" for row in rows)
+
+
+def _part_rows(answer: Answer, *more: list[str]) -> list[str]:
+    """Which records are in the part and which are not. The empty part is no find, and nobody should take it for one."""
+    if answer.part is None:
+        return []
+    names = Names(answer.asked)
+    records, left_out = names.values(answer.part.records), names.values(answer.part.left_out)
+    rows = aligned([["  in it", records or "nothing"], ["  left out", left_out or "nothing"], *more])
+    return rows + [f"  {NO_FIND}"] * (left_out != "" and not records)
 
 
 def refusal_text(refusal: int, detail: str = "") -> str:
@@ -27,18 +69,26 @@ def refusal_text(refusal: int, detail: str = "") -> str:
 
 def short_text(answer: Answer) -> str:
     """One line, for a row among those of other pools."""
-    return refusal_text(answer.reply.refusal) if answer.kind == REFUSED else answer.kind
+    if answer.kind == REFUSED:
+        return refusal_text(answer.reply.refusal)
+    if answer.part is None or not answer.part.records:
+        return verdict(answer)
+    names = Names(answer.asked)
+    many = f"{len(answer.part.records)} of {count(len(names.pool.records), 'record')}"
+    return f"{verdict(answer)}, {many}: {names.values(answer.part.records)}"
 
 
-def sum_text(kinds: list[str]) -> str:
+def sum_text(kinds: list[str], some_part: bool = False) -> str:
     """What came of all pools, by kind; kinds of which there is none are left out, except that of a pool that fits."""
     fit, not_fit, refused = kinds.count(FITS), kinds.count(DOES_NOT_FIT), kinds.count(REFUSED)
     not_read = len(kinds) - fit - not_fit - refused
-    parts = [f"{fit} fits" if fit == 1 else f"{fit} fit"]
-    if not_fit:
-        parts.append(f"{not_fit} does not" if not_fit == 1 else f"{not_fit} do not")
-    parts += [f"{refused} refused"] * bool(refused) + [f"{not_read} not read"] * bool(not_read)
-    return f"{len(kinds)} pool{'s' * (len(kinds) != 1)}: {', '.join(parts)}"
+    if some_part:
+        said = [f"{fit} with a part that fits"] + [f"{not_fit} without"] * bool(not_fit)
+    else:
+        said = [f"{fit} fits" if fit == 1 else f"{fit} fit"]
+        said += [f"{not_fit} does not" if not_fit == 1 else f"{not_fit} do not"] * bool(not_fit)
+    said += [f"{refused} refused"] * bool(refused) + [f"{not_read} not read"] * bool(not_read)
+    return f"{count(len(kinds), 'pool')}: {', '.join(said)}"
 
 
 def _tree_rows(answer: Answer) -> list[str]:
@@ -64,11 +114,11 @@ def aligned(rows: Iterable[list[str]]) -> list[str]:
 
 
 def _hint_rows(answer: Answer) -> list[str]:
+    some_part = answer.asked.some_part
     if not answer.hints:
-        return ["No hints: every field and every value of the question is nil or names a record, no record is held in two places, and the",
-                "question's values lead to every record."]  # fmt: skip
+        return list(NO_PART_HINTS if some_part else NO_HINTS)
     rows = hint_sentences(answer.hints, Names(answer.asked))
-    return [HINTS_AHEAD] + [f"  {row}" for row in rows]
+    return [PART_HINTS_AHEAD if some_part else HINTS_AHEAD] + [f"  {row}" for row in rows]
 
 
 def hint_sentences(found: Hints, names: Names) -> list[str]:

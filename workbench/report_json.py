@@ -1,5 +1,5 @@
-"""Answers in JSON, for other programs: docs/WORKBENCH.md describes the form. Whoever changes it in a way that a reader could notice gives
-it a new number."""
+"""Answers in JSON, for other programs: docs/WORKBENCH.md describes the form. Whoever gives a key another meaning or takes one away gives the
+form a new number."""
 
 import json
 
@@ -8,6 +8,7 @@ from workbench.hints import Hints, Place
 from workbench.mistake import Mistake
 from workbench.model import Book, Question
 from workbench.names import Names
+from workbench.part import Part
 from workbench.refusals import sentence
 from workbench.unfolding import Line
 
@@ -15,15 +16,17 @@ FORMAT = 1
 NOT_READ = "not read"
 
 
-def report(book_name: str, book: Book | None, question: Question | None, results: list[dict]) -> str:
+def report(book_name: str, book: Book | None, question: Question | None, some_part: bool, results: list[dict]) -> str:
     asked = None
     if book and question:
         asked = {"predicate": book.predicates[question.predicate].name, "values": list(question.values)}
-    whole = {"format": FORMAT, "book": _unicode(book_name), "question": asked, "results": results}
+    about = "part" if some_part else "whole"
+    whole = {"format": FORMAT, "book": _unicode(book_name), "question": asked, "about": about, "results": results}
     return json.dumps(whole, indent=2, ensure_ascii=False) + "\n"
 
 
-def result(pool_name: str, answer: Answer) -> dict:
+def result(pool_name: str, answer: Answer, found: Answer | None = None) -> dict:
+    """`found` is the answer about some part, where the whole pool does not fit."""
     refusal = answer.reply.refusal
     return {
         "pool": _unicode(pool_name),
@@ -32,15 +35,16 @@ def result(pool_name: str, answer: Answer) -> dict:
         "message": "\n".join(filter(None, (sentence(refusal), answer.detail))) if refusal else "",
         "facts": answer.reply.facts,
         "rounds": answer.reply.rounds,
+        "part": _part(answer.part) if answer.part else None,
         "unfolding": _unfolding(answer),
-        "hints": _hints(answer.hints),
+        "hints": _hints(answer.hints, found),
     }
 
 
 def not_read(pool_name: str, mistake: Mistake) -> dict:
     """The result of a pool that never reached the engine: it, the book or the question has a mistake, or there is no library."""
-    whole = {"pool": _unicode(pool_name), "answer": NOT_READ, "refusal": 0, "message": str(mistake), "facts": 0, "rounds": 0, "unfolding": []}
-    return whole | {"hints": _hints(Hints())}
+    whole = {"pool": _unicode(pool_name), "answer": NOT_READ, "refusal": 0, "message": str(mistake), "facts": 0, "rounds": 0}
+    return whole | {"part": None, "unfolding": [], "hints": _hints(Hints())}
 
 
 def _unicode(name: str) -> str:
@@ -70,13 +74,18 @@ def _line(line: Line, names: Names) -> dict:
     }
 
 
-def _hints(found: Hints) -> dict:
+def _hints(hints: Hints, found: Answer | None = None) -> dict:
     return {
-        "held": [{"record": held.record, "by": [_place(place) for place in held.places]} for held in found.held],
-        "unreached": [{"record": lost.record, "by": list(lost.by)} for lost in found.unreached],
-        "dangling": [_place(loose.place) | {"value": loose.value, "asked": loose.asked} for loose in found.dangling],
-        "outside": [{"argument": outside.argument, "value": outside.value} for outside in found.outside],
+        "held": [{"record": held.record, "by": [_place(place) for place in held.places]} for held in hints.held],
+        "unreached": [{"record": lost.record, "by": list(lost.by)} for lost in hints.unreached],
+        "dangling": [_place(loose.place) | {"value": loose.value, "asked": loose.asked} for loose in hints.dangling],
+        "outside": [{"argument": outside.argument, "value": outside.value} for outside in hints.outside],
+        "part": {"fits": found.part is not None} | _part(found.part or Part((), ())) if found else None,
     }
+
+
+def _part(part: Part) -> dict:
+    return {"records": list(part.records), "left_out": list(part.left_out)}
 
 
 def _place(place: Place) -> dict:

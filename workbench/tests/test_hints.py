@@ -1,6 +1,6 @@
 import unittest
 
-from workbench.hints import Dangling, Held, Hints, Outside, Place, Unreached, hints, reached_from
+from workbench.hints import Dangling, Held, Hints, Outside, Place, Unreached, hints, part_hints, reached_from
 from workbench.model import Pool, Question, Record
 
 
@@ -42,3 +42,12 @@ class Looked(unittest.TestCase):
 
     def test_reached_nearest_first(self):
         self.assertEqual(reached_from((5, 1), pool(r1=(2, 3), r2=(4,), r3=(1, 0), r4=(9,), r6=(1,))), [1, 2, 3, 4])
+
+    def test_for_a_part_only_what_the_question_leads_to(self):
+        """The records 60 and 70 may be left out: neither they nor what they hold are a reason."""
+        rest = dict(r60=(70, 30, 8), r70=(60,))
+        self.assertTrue(hints(pool(r10=(30,), r30=(0,), **rest), Question(0, (10,))))
+        self.assertEqual(part_hints(pool(r10=(30,), r30=(0,), **rest), Question(0, (10,))), Hints())
+        found = part_hints(pool(r10=(30,), r20=(30,), r30=(7,), **rest), Question(0, (10, 20, 9)))
+        held, dangling = (Held(30, (Place(10, 1), Place(20, 1))),), (Dangling(Place(30, 1), 7, False),)
+        self.assertEqual(found, Hints(held=held, dangling=dangling, outside=(Outside(3, 9),)))

@@ -1,19 +1,21 @@
 import unittest
 from dataclasses import replace
+from unittest import mock
 
-from workbench.asking import DOES_NOT_FIT, FITS, REFUSED, Answer, Asked, ask
+from workbench import library
+from workbench.asking import DOES_NOT_FIT, FITS, REFUSED, Answer, Asked, ask, ask_next
 from workbench.book_bytes import encode_book
 from workbench.library import Reply
 from workbench.model import Book, Call, Condition, Pool, Predicate, Question, Record, Rule, UNEQUAL
 from workbench.pool_bytes import encode_pool
 from workbench.question_bytes import encode_question
-from workbench.render import aligned, answer_text, short_text, sum_text
-from workbench.tests.engine_samples import FROM_TEN_TO_TEN, H, L, NOTHING, S, TWO
+from workbench.render import aligned, answer_text, next_text, short_text, sum_text
+from workbench.tests.engine_samples import FROM_TEN_TO_TEN, FROM_TEN_TO_TWENTY, H, L, NOTHING, S, TWO
 from workbench.unfolding import Line
 
 
-def asked(book: Book, pool: Pool, question: Question) -> Asked:
-    return Asked(encode_book(book), encode_pool(pool), encode_question(question), book, pool, question)
+def asked(book: Book, pool: Pool, question: Question, some_part: bool = False) -> Asked:
+    return Asked(encode_book(book), encode_pool(pool), encode_question(question), book, pool, question, some_part)
 
 
 def text(book: Book, pool: Pool, question: Question) -> str:
@@ -88,6 +90,99 @@ class DoesNotFit(unittest.TestCase):
         self.assertEqual(len(answer.splitlines()), 3)
 
 
+class OfAPart(unittest.TestCase):
+    def text(self, book: Book, pool: Pool, question: Question) -> str:
+        return answer_text(ask(asked(book, pool, question, some_part=True)))
+
+    def test_fits(self):
+        pool = replace(TWO, spellings=((20, "0x14"),))
+        self.assertEqual(
+            self.text(L, pool, FROM_TEN_TO_TWENTY),
+            "a part fits\n"
+            "  in it      10\n"
+            "  left out   0x14\n"
+            "segment(10, 0x14)       rule 2 (line 4)   takes 10        c = 0x14\n"
+            "  segment(0x14, 0x14)   rule 1 (line 3)   takes nothing\n",
+        )
+
+    def test_the_whole_pool(self):
+        rows = self.text(H, TWO, Question(1, (10,))).splitlines()
+        self.assertEqual(rows[:3], ["a part fits", "  in it      10, 20", "  left out   nothing"])
+        self.assertTrue(rows[3].startswith("ring(10) "))
+
+    def test_the_empty_part_is_no_find(self):
+        self.assertEqual(
+            self.text(L, TWO, Question(0, (5, 5))),
+            "the empty part fits\n"
+            "  in it      nothing\n"
+            "  left out   10, 20\n"
+            "  the question holds without any record, which says nothing about the pool; a shape that needs a record tells more\n"
+            "segment(5, 5)   rule 1 (line 3)   takes nothing\n",
+        )
+
+    def test_the_empty_part_of_no_record(self):
+        self.assertEqual(
+            self.text(L, NOTHING, Question(0, (5, 5))),
+            "the empty part fits\n  in it      nothing\n  left out   nothing\nsegment(5, 5)   rule 1 (line 3)   takes nothing\n",
+        )
+
+    def test_no_part_with_hints(self):
+        pool = Pool((Record(10, (30,)), Record(20, (30,)), Record(30, (7,)), Record(60, (30, 8))))
+        self.assertEqual(
+            self.text(H, pool, Question(2, (10, 20))),
+            "no part fits, not even the empty one\n"
+            "Hints on where to look. They come from the question's values and the records to which these lead; the verdict is the engine's.\n"
+            "  30 is held by 2 fields: field 1 of 10, field 1 of 20\n"
+            "  field 1 of 30 holds 7, which is not nil and names no record\n",
+        )
+
+    def test_no_part_without_hints(self):
+        pool = Pool((*TWO.records, Record(30, (10, 8))))
+        answer = self.text(H, pool, Question(2, (10, 0)))
+        self.assertTrue(answer.startswith("no part fits, not even the empty one\nNo hints: every value of the question and every field of "))
+        self.assertEqual(len(answer.splitlines()), 3)
+
+
+class Next(unittest.TestCase):
+    """What is said of a part under a pool that does not fit."""
+
+    def said(self, book: Book, pool: Pool, question: Question) -> str:
+        answer = ask(asked(book, pool, question))
+        self.assertEqual(answer.kind, DOES_NOT_FIT)
+        found = ask_next(answer)
+        assert found
+        return next_text(found, "COMMAND")
+
+    def test_a_part(self):
+        self.assertEqual(
+            self.said(L, TWO, FROM_TEN_TO_TWENTY),
+            "A part of it fits, as the engine finds:\n"
+            "  in it           10\n"
+            "  left out        20\n"
+            "  its unfolding   COMMAND\n",
+        )
+
+    def test_the_empty_part_is_no_find(self):
+        self.assertEqual(
+            self.said(L, TWO, Question(0, (5, 5))),
+            "The empty part fits: the question holds without any record, which says nothing about the pool; "
+            "a shape that needs a record tells more.\n",
+        )
+
+    def test_none(self):
+        self.assertEqual(self.said(L, TWO, Question(0, (10, 5))), "No part of it fits either, not even the empty one.\n")
+
+    def test_nothing_where_it_fits_or_is_refused_or_is_about_a_part(self):
+        self.assertIsNone(ask_next(ask(asked(L, TWO, FROM_TEN_TO_TEN))))
+        self.assertIsNone(ask_next(ask(asked(L, TWO, Question(0, (10, 5)), some_part=True))))
+        self.assertIsNone(ask_next(Answer(asked(L, TWO, FROM_TEN_TO_TEN), Reply(11))))
+
+    def test_a_refusal_is_passed_over(self):
+        answer = ask(asked(L, TWO, FROM_TEN_TO_TWENTY))
+        with mock.patch.object(library, "decide", return_value=Reply(11)):
+            self.assertIsNone(ask_next(answer))
+
+
 class Refused(unittest.TestCase):
     def test_with_the_byte_at_fault(self):
         whole = replace(asked(L, TWO, FROM_TEN_TO_TEN), book_bytes=encode_book(L)[:-1], book=None)
@@ -119,6 +214,20 @@ class Rows(unittest.TestCase):
     def test_short(self):
         self.assertEqual(short_text(ask(asked(L, TWO, FROM_TEN_TO_TEN))), "fits")
         self.assertEqual(short_text(Answer(asked(L, TWO, FROM_TEN_TO_TEN), Reply(7)))[:10], "refusal 7:")
+
+    def test_short_of_a_part(self):
+        def short(*values: int) -> str:
+            return short_text(ask(asked(L, replace(TWO, spellings=((10, "0xA"),)), Question(0, values), some_part=True)))
+
+        self.assertEqual(short(10, 20), "a part fits, 1 of 2 records: 0xA")
+        self.assertEqual(short(5, 5), "the empty part fits")
+        self.assertEqual(short(10, 5), "no part fits, not even the empty one")
+        self.assertEqual(short_text(Answer(asked(L, TWO, FROM_TEN_TO_TEN, some_part=True), Reply(7)))[:10], "refusal 7:")
+
+    def test_sums_of_parts(self):
+        self.assertEqual(sum_text([FITS, DOES_NOT_FIT, DOES_NOT_FIT], True), "3 pools: 1 with a part that fits, 2 without")
+        self.assertEqual(sum_text([FITS, REFUSED, "not read"], True), "3 pools: 1 with a part that fits, 1 refused, 1 not read")
+        self.assertEqual(sum_text([DOES_NOT_FIT], True), "1 pool: 0 with a part that fits, 1 without")
 
     def test_sums(self):
         self.assertEqual(sum_text([FITS, FITS, DOES_NOT_FIT]), "3 pools: 2 fit, 1 does not")

@@ -1,28 +1,28 @@
 import json
 import unittest
 
-from workbench.asking import ask
+from workbench.asking import ask, ask_next
 from workbench.mistake import Mistake
 from workbench.model import Pool, Question, Record
 from workbench.report_json import not_read, report, result
-from workbench.tests.engine_samples import FROM_TEN_TO_TEN, H, L, TWO
+from workbench.tests.engine_samples import FROM_TEN_TO_TEN, FROM_TEN_TO_TWENTY, H, L, TWO
 from workbench.tests.test_render import asked
 
-NO_HINTS = {"held": [], "unreached": [], "dangling": [], "outside": []}
+NO_HINTS = {"held": [], "unreached": [], "dangling": [], "outside": [], "part": None}
 
 
 class Report(unittest.TestCase):
     def test_fits(self):
         found = result("two.pool", ask(asked(L, TWO, FROM_TEN_TO_TEN)))
-        whole = json.loads(report("L.book", L, FROM_TEN_TO_TEN, [found]))
-        self.assertEqual(list(whole), ["format", "book", "question", "results"])
-        self.assertEqual((whole["format"], whole["book"]), (1, "L.book"))
+        whole = json.loads(report("L.book", L, FROM_TEN_TO_TEN, False, [found]))
+        self.assertEqual(list(whole), ["format", "book", "question", "about", "results"])
+        self.assertEqual((whole["format"], whole["book"], whole["about"]), (1, "L.book", "whole"))
         self.assertEqual(whole["question"], {"predicate": "segment", "values": [10, 10]})
         self.assertEqual(whole["results"], [found])
         lines = found.pop("unfolding")
         self.assertEqual(
             found,
-            {"pool": "two.pool", "answer": "fits", "refusal": 0, "message": "", "facts": 10, "rounds": 3, "hints": NO_HINTS},
+            {"pool": "two.pool", "answer": "fits", "refusal": 0, "message": "", "facts": 10, "rounds": 3, "part": None, "hints": NO_HINTS},
         )
         self.assertEqual(len(lines), 3)
         self.assertEqual(
@@ -51,14 +51,37 @@ class Report(unittest.TestCase):
                 "unreached": [{"record": 40, "by": []}],
                 "dangling": [{"record": 30, "field": 1, "value": 7, "asked": False}],
                 "outside": [],
+                "part": None,
             },
         )
+
+    def test_a_part(self):
+        found = result("two.pool", ask(asked(L, TWO, FROM_TEN_TO_TWENTY, some_part=True)))
+        self.assertEqual(json.loads(report("L.book", L, FROM_TEN_TO_TWENTY, True, [found]))["about"], "part")
+        self.assertEqual((found["answer"], found["part"], found["hints"]), ("fits", {"records": [10], "left_out": [20]}, NO_HINTS))
+        self.assertEqual([line["records"] for line in found["unfolding"]], [[], [10]])
+
+    def test_no_part(self):
+        found = result("two.pool", ask(asked(L, TWO, Question(0, (10, 5)), some_part=True)))
+        self.assertEqual((found["answer"], found["part"], found["unfolding"]), ("does not fit", None, []))
+        self.assertEqual(found["hints"], NO_HINTS | {"outside": [{"argument": 2, "value": 5}]})
+
+    def test_a_part_where_the_whole_does_not_fit(self):
+        for question, due in (
+            (FROM_TEN_TO_TWENTY, {"fits": True, "records": [10], "left_out": [20]}),
+            (Question(0, (5, 5)), {"fits": True, "records": [], "left_out": [10, 20]}),
+            (Question(0, (10, 5)), {"fits": False, "records": [], "left_out": []}),
+        ):
+            with self.subTest(question=question):
+                answer = ask(asked(L, TWO, question))
+                found = result("two.pool", answer, ask_next(answer))
+                self.assertEqual((found["answer"], found["part"], found["hints"]["part"]), ("does not fit", None, due))
 
     def test_refused_and_not_read_have_the_same_keys(self):
         fits = result("p", ask(asked(L, TWO, FROM_TEN_TO_TEN)))
         mistaken = not_read("p", Mistake("there is no such file", "p"))
-        self.assertEqual(list(mistaken), list(fits))
+        self.assertEqual((list(mistaken), list(mistaken["hints"])), (list(fits), list(fits["hints"])))
         self.assertEqual((mistaken["answer"], mistaken["message"]), ("not read", "p: there is no such file"))
 
     def test_no_question(self):
-        self.assertIsNone(json.loads(report("b", None, None, []))["question"])
+        self.assertIsNone(json.loads(report("b", None, None, False, []))["question"])
