@@ -10,14 +10,17 @@ from workbench.asking import FITS, Answer
 from workbench.mistake import Mistake
 from workbench.model import Record
 from workbench.names import Names
+from workbench.render import verdict
+from workbench.wording import count
 
 # Light tints of the palette of Okabe and Ito, which colour-blind people can tell apart, one for each predicate that a book can have.
 FILLS = ("#A9D6F2", "#F6D28B", "#98D7C2", "#F7F0A3", "#E7C1D7", "#F2BC98", "#A3BCDB", "#CFCFCF")
 PLAIN = "#F2F2F2"
 HELD = "#F6D28B"
-UNREACHED = "#FFFFFF"
+OUTSIDE = "#FFFFFF"
 LOOSE = "#C04A00"
 INK = "#222222"
+DASHED = 'BORDER="2" STYLE="dashed"'
 MOST_LABEL = 100
 
 
@@ -31,6 +34,8 @@ class _Picture:
         self.names = Names(answer.asked)
         self.pool, self.question = self.names.pool, self.names.question
         self.fits = answer.kind == FITS
+        self.verdict = f": {verdict(answer)}" if answer.asked.some_part else f" {verdict(answer)}"
+        self.left_out = answer.part.left_out if answer.part else ()
         self.taken_by = {address: line.predicate for line in answer.lines for address in line.takes}
         self.held = {held.record: len(held.places) for held in answer.hints.held}
         self.unreached = {lost.record: lost.by for lost in answer.hints.unreached}
@@ -110,15 +115,17 @@ class _Picture:
 
     def _mark(self, address: int) -> tuple[str, str, str]:
         """Fill, border and words of a record."""
-        thin, thick, dashed = f'BORDER="0" COLOR="{INK}"', f'BORDER="3" COLOR="{INK}"', f'BORDER="2" STYLE="dashed" COLOR="{INK}"'
+        thin, thick, dashed = (f'{border} COLOR="{INK}"' for border in ('BORDER="0"', 'BORDER="3"', DASHED))
         if address in self.taken_by:
             predicate = self.taken_by[address]
             return FILLS[predicate], thin, self.names.book.predicates[predicate].name
+        if address in self.left_out:
+            return OUTSIDE, dashed, "left out"
         if address in self.held:
             words = f"held by {self.held[address]} fields" + (", not reached" if address in self.unreached else "")
             return HELD, thick, words
         if address in self.unreached:
-            return UNREACHED, dashed, "not reached" if self.unreached[address] else "held by none"
+            return OUTSIDE, dashed, "not reached" if self.unreached[address] else "held by none"
         return PLAIN, thin, ""
 
     # What fields and the question's values lead to.
@@ -215,19 +222,20 @@ class _Picture:
     # The legend, which is the picture's label.
 
     def _legend(self) -> str:
-        verdict = "fits" if self.fits else "does not fit"
         # The title stands in the column of the words, where it does not widen that of the swatches.
         rows = ['<TR><TD HEIGHT="8"></TD><TD></TD></TR>']
-        rows.append(f'<TR><TD></TD><TD ALIGN="LEFT"><B>{_label(self.names.asked())}</B> {verdict}</TD></TR>')
+        rows.append(f'<TR><TD></TD><TD ALIGN="LEFT"><B>{_label(self.names.asked())}</B>{self.verdict}</TD></TR>')
         rows += [_legend_row(*row) for row in (self._taken_legend() if self.fits else self._hint_legend())]
         return f'<<TABLE BORDER="0" CELLBORDER="0" CELLSPACING="4" CELLPADDING="2">{"".join(rows)}</TABLE>>'
 
     def _taken_legend(self) -> list[tuple[str, str, str]]:
         rows = []
         for predicate in sorted(set(self.taken_by.values())):
-            count = list(self.taken_by.values()).count(predicate)
-            words = f"{self.names.book.predicates[predicate].name} takes {count} record{'s' * (count != 1)}"
+            many = list(self.taken_by.values()).count(predicate)
+            words = f"{self.names.book.predicates[predicate].name} takes {count(many, 'record')}"
             rows.append((FILLS[predicate], 'BORDER="1"', words))
+        if self.left_out:
+            rows.append((OUTSIDE, DASHED, f"{count(len(self.left_out), 'record')} left out"))
         return rows or [("white", 'BORDER="1"', "the pool has no record")]
 
     def _hint_legend(self) -> list[tuple[str, str, str]]:
@@ -235,7 +243,7 @@ class _Picture:
         if self.held:
             rows.append((HELD, 'BORDER="3"', "held by two or more fields (thick arrows)"))
         if self.unreached:
-            rows.append((UNREACHED, 'BORDER="2" STYLE="dashed"', "no way leads here from the question's values"))
+            rows.append((OUTSIDE, DASHED, "no way leads here from the question's values"))
         if self._loose_values():
             rows.append(("white", f'BORDER="1" STYLE="dashed" COLOR="{LOOSE}"', "not nil, and no record has this address"))
         return rows or [("white", 'BORDER="1"', "no hints")]

@@ -16,7 +16,7 @@ from io import BytesIO, StringIO, TextIOWrapper
 from pathlib import Path
 from unittest import mock
 
-from workbench import cli, library
+from workbench import ask_verb, cli, library
 from workbench.library import ROOT
 from workbench.mistake import Unusable
 from workbench.tests.engine_samples import TWO_WORDS
@@ -233,13 +233,91 @@ class Inside(unittest.TestCase):
             with self.subTest(pools=pools):
                 self.assertEqual(self.run_verb("ask", "house", *pools, "ring(0x10)")[0], due)
 
+    def test_statuses_of_ask_about_a_part(self):
+        whole, some, none = "examples/ring.pool", "examples/foreign.pool", "examples/circle.pool"
+        wrong = "examples/mistakes/same-address.pool"
+        for pools, due in (
+            ((whole,), 0),
+            ((some,), 0),
+            ((whole, some), 0),
+            ((none,), 1),
+            ((whole, none, some), 1),
+            ((none, wrong, some), 2),
+        ):
+            with self.subTest(pools=pools):
+                self.assertEqual(self.run_verb("ask", "--part", "house", *pools, "segment(0x10, 0x20)")[0], due)
+                self.assertEqual(self.run_verb("ask", "--part", "--json", "house", *pools, "segment(0x10, 0x20)")[0], due)
+
+    def test_json_tells_what_was_asked(self):
+        asked = ("house", "examples/foreign.pool", "segment(0x10, nil)", "--json")
+        status, out, _ = self.run_verb("ask", *asked)
+        whole, result = json.loads(out), json.loads(out)["results"][0]
+        self.assertEqual((status, whole["about"], result["answer"], result["part"]), (1, "whole", "does not fit", None))
+        self.assertEqual(result["hints"]["part"], {"fits": True, "records": [16, 32, 48], "left_out": [64, 72, 96]})
+        status, out, _ = self.run_verb("ask", "--part", *asked)
+        whole, result = json.loads(out), json.loads(out)["results"][0]
+        self.assertEqual((status, whole["about"], result["answer"], result["hints"]["part"]), (0, "part", "fits", None))
+        self.assertEqual(result["part"], {"records": [16, 32, 48], "left_out": [64, 72, 96]})
+        status, out, _ = self.run_verb("ask", "--part", "house", "no-such-file", "ring(1)", "--json")
+        self.assertEqual((status, json.loads(out)["about"], json.loads(out)["results"][0]["part"]), (2, "part", None))
+
+    def offered(self, out: bytes) -> str:
+        (row,) = [row for row in out.decode().splitlines() if row.startswith("  its unfolding ")]
+        return row.removeprefix("  its unfolding ").strip()
+
+    def test_the_command_offered_shows_the_part(self):
+        """Whatever the files are called."""
+        for name in ("plain", "two words", "it's", 'a "b" $HOME `c` \\', "ä*?", "-dash"):
+            path = self.folder / name
+            path.write_text("10: 20\n20: 10\n")
+            os.chdir(self.folder)
+            with self.subTest(name=name):
+                status, out, _ = self.run_verb("ask", "house", "--", name, "segment(10, 20)")
+                self.assertEqual(status, 1)
+                os.chdir(ROOT)
+                line = self.offered(out).replace("./shapes", COMMAND)
+                done = subprocess.run(["sh", "-c", line], cwd=self.folder, capture_output=True, check=False, timeout=60)
+                self.assertEqual((done.returncode, done.stdout[:12], done.stderr), (0, b"a part fits\n", b""))
+
+    def test_the_command_offered_for_standard_input_and_for_names_that_do_not_print(self):
+        given = mock.Mock(buffer=BytesIO(b"10: 20\n20: 10\n"))
+        with mock.patch.object(sys, "stdin", given):
+            _, out, _ = self.run_verb("ask", "house", "-", "segment(10, 20)")
+        self.assertEqual(self.offered(out), "./shapes ask --part house - 'segment(10, 20)'  # with the same standard input")
+        pool = self.folder / "new\nline"
+        pool.write_text("10: 20\n20: 10\n")
+        self.assertEqual(self.offered(self.run_verb("ask", "house", str(pool), "segment(10, 20)")[1]), "ask the same with --part")
+
+    def test_the_answer_does_not_wait_for_the_part(self):
+        with mock.patch.object(ask_verb, "ask_next", side_effect=KeyboardInterrupt):
+            status, out, said = self.run_verb("ask", "house", "examples/circle.pool", "segment(10, 20)")
+        self.assertEqual((status, out.splitlines()[0], said), (2, b"does not fit", "shapes: stopped\n"))
+
+    def test_rows_ask_about_no_part_by_themselves(self):
+        with mock.patch.object(library, "decide", side_effect=library.decide) as decided:
+            self.run_verb("ask", "house", "examples/circle.pool", "examples/foreign.pool", "segment(10, 20)")
+        self.assertEqual([call.args[-1] for call in decided.mock_calls], [False, False])
+
+    def test_nothing_to_save_of_no_part(self):
+        path = self.folder / "unfolding"
+        status, _, said = self.run_verb("ask", "--part", "house", "examples/ring.pool", "segment(0x10, nil)", "--save", str(path))
+        self.assertEqual((status, said), (1, f"shapes: nothing is written to {path}: only a part that fits has an unfolding\n"))
+        self.assertFalse(path.exists())
+
     def test_refused_bytes(self):
         book = self.folder / "cut"
         book.write_bytes(bytes.fromhex("01 02 02 00"))
         status, out, said = self.run_verb("ask", str(book), "examples/ring.pool", "whatever(1)")
         self.assertEqual((status, said), (2, ""))
         self.assertRegex(out, rb"^refusal 1: ")
-        for verb in (["check", "QUESTION", "examples/ring.pool"], ["draw", "QUESTION", "-o", str(self.folder / "a.dot")]):
+        saved, picture = "examples/ring.pool", str(self.folder / "a.dot")
+        for verb in (
+            ["check", "QUESTION", saved],
+            ["check", "QUESTION", saved, "--part", "emp"],
+            ["draw", "QUESTION", "-o", picture],
+            ["draw", "QUESTION", "-o", picture, "--part"],
+            ["ask", "QUESTION", "--part"],
+        ):
             status, out, _ = self.run_verb(verb[0], str(book), "examples/ring.pool", *verb[1:])
             self.assertEqual((status, out[:10]), (2, b"refusal 1:"))
             self.assertIn(b"\n  byte 4 of the book: ", out)
@@ -252,6 +330,9 @@ class Inside(unittest.TestCase):
         self.assertEqual(status, 2)
         self.assertIn(b"refusal 7: ", out.splitlines()[1])
         self.assertEqual(out.splitlines()[2], b"2 pools: 1 fits, 1 refused")
+        # No address can be looked for in it.
+        status, out, _ = self.run_verb("check", "house", str(pool), "ring(0x10)", str(pool), "--part", "0x10")
+        self.assertEqual((status, out[:10]), (2, b"refusal 7:"))
 
     def test_saved_unfolding_damaged_in_every_byte(self):
         saved = self.folder / "unfolding"
@@ -268,6 +349,41 @@ class Inside(unittest.TestCase):
         for cut in (0, 1, 8, 16, 24):
             saved.write_bytes(whole[:cut])
             self.assertEqual(self.run_verb("check", *asked, str(saved))[0], 1)
+
+    def test_saved_unfolding_of_a_part(self):
+        saved = self.folder / "unfolding"
+        asked = ("house", "examples/foreign.pool", "segment(0x10, nil)")
+        advice = "check it with --part 0x10,0x20,0x30"
+        self.assertEqual(self.run_verb("ask", "--part", *asked, "--save", str(saved))[0], 0)
+        for part, due in (
+            (["--part", "0x10,0x20,0x30"], "taken\n"),
+            (["--part", "48, 16, 32"], "taken\n"),
+            ([], f"not taken\n  it holds for the part 0x10, 0x20, 0x30 and not for the whole pool: {advice}\n"),
+            (["--part", "0x10,0x20"], f"not taken\n  it holds for the part 0x10, 0x20, 0x30 and not for the part given: {advice}\n"),
+            (["--part", "emp"], f"not taken\n  it holds for the part 0x10, 0x20, 0x30 and not for the part given: {advice}\n"),
+        ):
+            with self.subTest(part=part):
+                status = 0 if due == "taken\n" else 1
+                self.assertEqual(self.run_verb("check", *asked, str(saved), *part), (status, due.encode(), ""))
+        status, out, said = self.run_verb("check", *asked, str(saved), "--part", "0x10,0x50")
+        self.assertEqual((status, out), (2, b""))
+        self.assertTrue(said.startswith("part:1:6: the pool has no record at 0x50: its records are 0x10, 0x20, 0x30, 0x40, 0x48, 0x60\n"))
+        # Nobody is sent to a part for which it does not hold either.
+        saved.write_bytes(saved.read_bytes()[:-8] + bytes(8))
+        self.assertRegex(self.run_verb("check", *asked, str(saved))[1], b"^not taken\n  its lines can be read, but ")
+
+    def test_saved_unfolding_of_the_empty_part_and_of_the_whole_pool(self):
+        saved = self.folder / "unfolding"
+        for question, part, advice in (
+            ("segment(0x10, 0x10)", [], "it holds for the empty part and not for the whole pool: check it with --part emp"),
+            ("ring(0x10)", ["--part", "0x10"], "it holds for the whole pool and not for the part given: check it without --part"),
+        ):
+            with self.subTest(question=question):
+                asked = ("house", "examples/ring.pool", question)
+                self.assertEqual(self.run_verb("ask", "--part", *asked, "--save", str(saved))[0], 0)
+                self.assertEqual(self.run_verb("check", *asked, str(saved), *part)[:2], (1, f"not taken\n  {advice}\n".encode()))
+                right = [] if part else ["--part", "emp"]
+                self.assertEqual(self.run_verb("check", *asked, str(saved), *right)[:2], (0, b"taken\n"))
 
     def test_the_longest_unfolding(self):
         first, second, third = TWO_WORDS[:3], TWO_WORDS[3:6], TWO_WORDS[6:8]
@@ -352,7 +468,9 @@ class Inside(unittest.TestCase):
                 ("ask", "house", file, question),
                 ("ask", "house", file, pool, question, "--json"),
                 ("ask", "house", pool, data.decode("latin-1")),
+                ("ask", "--part", "house", file, question),
                 ("check", "house", pool, question, file),
+                ("check", "house", pool, question, file, "--part", data.decode("latin-1")),
                 ("draw", "house", file, question, "-o", target),
                 ("encode", "bench", file, file, question),
                 ("decode", "book", file),

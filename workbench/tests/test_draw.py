@@ -5,6 +5,7 @@ import shutil
 import subprocess
 import sys
 import unittest
+from dataclasses import replace
 from pathlib import Path
 from unittest import mock
 
@@ -32,12 +33,16 @@ DRAWN = {
     "ring": ("house.book", "ring.pool", "ring(0x10)"),
     "hung-twice": ("house.book", "hung-twice.pool", "queue_and_free(0x10, 0x40)"),
     "lost": ("house.book", "lost.pool", "queue_and_free(0x10, 0x40)"),
+    "part": ("house.book", "foreign.pool", "segment(0x10, nil)"),
+    "part-none": ("house.book", "lost.pool", "queue_and_free(0x10, 0x40)"),
 }
+OF_A_PART = ("part", "part-none")
 
 
 def answered(name: str) -> Answer:
     book, pool, question = DRAWN[name]
-    return ask(read_asked(str(ROOT / "examples" / book), str(ROOT / "examples" / pool), question))
+    asked_of = read_asked(str(ROOT / "examples" / book), str(ROOT / "examples" / pool), question)
+    return ask(replace(asked_of, some_part=name in OF_A_PART))
 
 
 class Stored(unittest.TestCase):
@@ -58,6 +63,24 @@ class Said(unittest.TestCase):
         self.assertIn("held by 2 fields", twice)
         self.assertIn("held by none", twice)
         self.assertIn("no record", dot_text(answered("lost")))
+
+    def test_left_out(self):
+        """In words and by a dashed border: here no other box is white with one."""
+        text = dot_text(answered("part"))
+        self.assertEqual(text.count('<FONT POINT-SIZE="9">left out</FONT>'), 3)
+        self.assertEqual(text.count('STYLE="dashed" COLOR='), 3)
+        self.assertIn("</B>: a part fits<", text)
+        self.assertIn(">3 records left out<", text)
+
+    def test_the_empty_part_and_none(self):
+        text = dot_text(ask(asked(H, Pool((Record(1, (0,)),)), Question(0, (1, 1)), some_part=True)))
+        self.assertIn("</B>: the empty part fits<", text)
+        self.assertIn(">1 record left out<", text)
+        self.assertNotIn("the pool has no record", text)
+        self.assertIn("the pool has no record", dot_text(ask(asked(H, Pool(()), Question(0, (5, 5)), some_part=True))))
+        # Records to which nothing leads are no reason here.
+        self.assertIn("</B>: no part fits, not even the empty one<", dot_text(answered("part-none")))
+        self.assertNotIn("not reached", dot_text(answered("part-none")))
 
     def test_no_record_and_no_hints(self):
         self.assertIn("the pool has no record", dot_text(ask(asked(H, Pool(()), Question(0, (5, 5))))))
@@ -125,7 +148,7 @@ class Laid(unittest.TestCase):
             records = [Record(address, tuple(chance.choices(values, k=chance.randrange(5)))) for address in addresses]
             question = Question(chance.choice((0, 2)), tuple(chance.choices(values, k=2)))
             with self.subTest(pool=i):
-                self.laid_out_without_a_word(dot_text(ask(asked(H, Pool(tuple(records)), question))))
+                self.laid_out_without_a_word(dot_text(ask(asked(H, Pool(tuple(records)), question, some_part=i % 3 == 0))))
 
 
 if __name__ == "__main__" and "--store" in sys.argv:
