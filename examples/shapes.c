@@ -1,4 +1,5 @@
-/* Lends memory, asks whether 10:(20) 20:(10) is a list segment from 10 to 10, reads the unfolding and has it checked. */
+/* Lends memory, asks whether 10:(20) 20:(10) is a list segment from 10 to 10, reads the unfolding and has it checked. Then asks whether
+ * some part of these records is a segment from 10 to 20, and has that checked. */
 #include <inttypes.h>
 #include <stdio.h>
 
@@ -11,6 +12,7 @@
 static const uint8_t book[] = {1, 2, 2, 0, 0, 1, 0, 0, 1, 0, 0, 0, 1, 0, 1, 0, 1, 2, 1, 0, 2, 1};
 static const uint8_t snapshot[] = {2, VALUE(10), 1, VALUE(20), VALUE(20), 1, VALUE(10)};
 static const uint8_t question[] = {0, 2, VALUE(10), VALUE(10)};
+static const uint8_t to_20[] = {0, 2, VALUE(10), VALUE(20)};
 static const unsigned kept[] = {0, 1, 2, 3, 10, 20}; /* nil, a spare for each of the three variables, and what question and snapshot have */
 
 int main(void)
@@ -31,5 +33,12 @@ int main(void)
     }
     refusal = shapes_check(book, sizeof book, snapshot, sizeof snapshot, question, sizeof question, space, 3 * lines, &taken);
     printf("check: refusal %" PRIu64 ", %s\n", refusal, taken ? "taken" : "not taken");
+
+    uint16_t part;
+    refusal = shapes_part(book, sizeof book, snapshot, sizeof snapshot, to_20, sizeof to_20,
+                          table, LINES, space, 3 * LINES, &verdict, &part, &facts, &rounds, &lines);
+    printf("some part: refusal %" PRIu64 ", %s, records 0x%04x\n", refusal, verdict ? "fits" : "does not fit", (unsigned)part);
+    refusal = shapes_check_part(book, sizeof book, snapshot, sizeof snapshot, to_20, sizeof to_20, part, space, 3 * lines, &taken);
+    printf("check of this part: refusal %" PRIu64 ", %s\n", refusal, taken ? "taken" : "not taken");
     return 0;
 }

@@ -1,31 +1,33 @@
 #!/usr/bin/env python3
 """Asks the shared library whether two records that point to one another are a list segment from the first to itself, reads the unfolding
-and has it checked. target/libshapes.so is made by the first `./shapes ask`."""
-from ctypes import CDLL, byref, c_size_t, c_uint8, c_uint64
+and has it checked; then the same for some part of the records. target/libshapes.so is made by the first `./shapes ask`."""
+from ctypes import CDLL, byref, c_size_t, c_uint8, c_uint16, c_uint64
 from pathlib import Path
 
 BOOK = bytes.fromhex("01 02 02  00 00 01 00 00 01 00 00  00 01 00 01 00 01 02 01 00 02 01")  # the rules of examples/segment.book
 SNAPSHOT = bytes.fromhex("02  0A000000 01 14000000  14000000 01 0A000000")  # 10: 20 and 20: 10
 QUESTION = bytes.fromhex("00 02 0A000000 0A000000")  # segment(10, 10)
+TO_20 = bytes.fromhex("00 02 0A000000 14000000")  # segment(10, 20)
 KEPT = (0, 1, 2, 3, 10, 20)  # nil, three spares since the largest rule has three variables, and what snapshot and question name
 LINES = 1024
 
 
 def lent(*blocks: bytes) -> list:
-    return [part for block in blocks for part in ((c_uint8 * len(block))(*block), c_size_t(len(block)))]
+    return [piece for block in blocks for piece in ((c_uint8 * len(block))(*block), c_size_t(len(block)))]
 
 
 path = Path(__file__).resolve().parent.parent / "target" / "libshapes.so"
 if not path.exists():
     raise SystemExit("target/libshapes.so is not there yet: the first ./shapes ask makes it")
 library = CDLL(str(path))
-library.shapes_decide.restype = library.shapes_check.restype = c_uint64
+for entry in (library.shapes_decide, library.shapes_check, library.shapes_part, library.shapes_check_part):
+    entry.restype = c_uint64
 
 table, space = (c_uint64 * LINES)(), (c_uint64 * (3 * LINES))()
+memory = table, c_size_t(LINES), space, c_size_t(3 * LINES)
 verdict, facts, rounds, lines, taken = (c_uint64() for _ in range(5))
 asked = lent(BOOK, SNAPSHOT, QUESTION)
-numbers = byref(verdict), byref(facts), byref(rounds), byref(lines)
-refusal = library.shapes_decide(*asked, table, c_size_t(LINES), space, c_size_t(3 * LINES), *numbers)
+refusal = library.shapes_decide(*asked, *memory, byref(verdict), byref(facts), byref(rounds), byref(lines))
 print(f"refusal {refusal} verdict {verdict.value} facts {facts.value} rounds {rounds.value} lines {lines.value}")
 
 for line in range(lines.value):
@@ -36,3 +38,9 @@ for line in range(lines.value):
 for words in (3 * lines.value, 3 * lines.value - 1):
     refusal = library.shapes_check(*asked, space, c_size_t(words), byref(taken))
     print(f"check of {words} words: refusal {refusal} taken {taken.value}")
+
+asked, part = lent(BOOK, SNAPSHOT, TO_20), c_uint16()
+refusal = library.shapes_part(*asked, *memory, byref(verdict), byref(part), byref(facts), byref(rounds), byref(lines))
+print(f"some part: refusal {refusal} verdict {verdict.value} records {part.value:02b} lines {lines.value}")
+refusal = library.shapes_check_part(*asked, part, space, c_size_t(3 * lines.value), byref(taken))
+print(f"check of this part: refusal {refusal} taken {taken.value}")
