@@ -1,4 +1,4 @@
-"""What README.md shows of the workbench is what there is: its first answer, its book, and the verbs and examples that it names."""
+"""What README.md shows of the workbench is what there is: its answers, its book, and the verbs and examples that it names."""
 
 import re
 import textwrap
@@ -16,9 +16,13 @@ BLOCKS = [textwrap.dedent(block).strip("\n") for block in re.findall(r"(?:^(?:  
 class Readme(unittest.TestCase):
     maxDiff = None
 
-    def test_first_answer(self):
-        self.assertTrue(BLOCKS[0].startswith("./shapes ask "))
-        self.assertEqual(run(BLOCKS[0]), BLOCKS[1])
+    def test_answers(self):
+        """What stands after a command that asks is what it prints."""
+        asked = [place for place, block in enumerate(BLOCKS) if block.startswith("./shapes ask ")]
+        self.assertEqual([BLOCKS[place].split(" house ")[0] for place in asked], ["./shapes ask", "./shapes ask --part"])
+        for place in asked:
+            with self.subTest(command=BLOCKS[place]):
+                self.assertEqual(run(BLOCKS[place]), BLOCKS[place + 1])
 
     def test_its_book_is_the_example(self):
         (book,) = [block for block in BLOCKS if "=>" in block]
