@@ -3,15 +3,18 @@
 use crate::compare::number_line;
 use crate::desk;
 use crate::input::{from_hex, Input};
-use crate::judge::{self, Table};
+use crate::judge::{self, Expected, Table};
 use crate::lent::{self, Manner, Sizes, AROUND};
+use crate::parts;
 use crate::unfoldings::words_of;
 use reference::api;
+use std::str::FromStr;
 
 /// Says what both programs say.
 pub fn run(words: &[&str]) -> Option<()> {
     let (sizes, words) = sizes(words)?;
-    let (dirt, words) = dirt(words)?;
+    let (dirt, words) = number("--dirt", words)?;
+    let (part, words) = number("--part", words)?;
     let bytes = |word: &&str| from_hex(if *word == "-" { "" } else { word });
     let sections: Option<Vec<Vec<u8>>> = words.iter().map(bytes).collect();
     let mut sections = sections?.into_iter();
@@ -20,11 +23,13 @@ pub fn run(words: &[&str]) -> Option<()> {
         snapshot: sections.next()?,
         question: sections.next()?,
     };
-    let around = AROUND;
-    let manner = Manner { around, dirt };
+    let manner = Manner {
+        around: AROUND,
+        dirt: dirt.unwrap_or(u64::MAX),
+    };
     match sections.next() {
         None => decide(&input, sizes, manner),
-        Some(unfolding) => check(&input, &unfolding, manner),
+        Some(unfolding) => check(&input, part, &unfolding, manner),
     }
     Some(())
 }
@@ -37,10 +42,14 @@ fn sizes<'a, 'b>(words: &'a [&'b str]) -> Option<(Sizes, &'a [&'b str])> {
     Some((Sizes { lines, words }, rest))
 }
 
-fn dirt<'a, 'b>(words: &'a [&'b str]) -> Option<(u64, &'a [&'b str])> {
+/// The number after this word, if the words begin so.
+fn number<'a, 'b, T: FromStr>(
+    name: &str,
+    words: &'a [&'b str],
+) -> Option<(Option<T>, &'a [&'b str])> {
     match words {
-        ["--dirt", dirt, rest @ ..] => Some((dirt.parse().ok()?, rest)),
-        _ => Some((u64::MAX, words)),
+        [word, number, rest @ ..] if *word == name => Some((Some(number.parse().ok()?), rest)),
+        _ => Some((None, words)),
     }
 }
 
@@ -53,25 +62,47 @@ fn decide(input: &Input, sizes: Sizes, manner: Manner) {
         desk::decide(book, snapshot, question),
     );
     let outcome = api::decide(book, snapshot, question, sizes.lines, sizes.words);
-    let answer = lent::decide(input, sizes, manner);
-    println!("shapes_decide");
-    print!("  reference {}", api::bench_line(outcome.reply));
-    match judge::decided(input, outcome.reply, Table::of(&outcome), &answer) {
+    let (reply, table) = (outcome.reply, Table::of(&outcome));
+    let parts = parts::fitting(input, table.facts(reply));
+    lend(input, sizes, manner, Expected::whole(reply, table));
+    lend(
+        input,
+        sizes,
+        manner,
+        Expected::some_part(reply, table, &parts),
+    );
+}
+
+fn lend(input: &Input, sizes: Sizes, manner: Manner, expected: Expected) {
+    let answer = lent::decide(expected.about(), input, sizes, manner);
+    println!("{}", expected.about().entry());
+    print!("  reference {}", api::bench_line(expected.reply));
+    if let Some(parts) = expected.parts {
+        println!("  parts     {parts:?}");
+    }
+    match judge::decided(input, &expected, &answer) {
         Ok(lines) => println!("  proved    the same, with {} lines", lines.len()),
         Err(wrong) => println!("  wrong     {wrong}"),
     }
 }
 
-fn check(input: &Input, unfolding: &[u8], manner: Manner) {
+fn check(input: &Input, part: Option<u16>, unfolding: &[u8], manner: Manner) {
     let [book, snapshot, question] = input.sections();
     let expected = api::desk_check(book, snapshot, question, unfolding) as u64;
     let answer = desk::check(book, snapshot, question, unfolding);
     print("desk_check", expected, answer);
     let words = words_of(unfolding);
-    let expected = api::check(book, snapshot, question, &words);
-    println!("shapes_check");
+    check_words(None, input, &words, manner);
+    if part.is_some() {
+        check_words(part, input, &words, manner);
+    }
+}
+
+fn check_words(part: Option<u16>, input: &Input, words: &[u64], manner: Manner) {
+    let expected = judge::reference_check(part, input, words);
+    println!("{}", lent::check_entry(part));
     println!("  reference refusal {} taken {}", expected.0, expected.1);
-    match judge::checked(expected, &words, &lent::check(input, &words, manner)) {
+    match judge::checked(expected, words, &lent::check(part, input, words, manner)) {
         Ok(()) => println!("  proved    the same"),
         Err(wrong) => println!("  wrong     {wrong}"),
     }

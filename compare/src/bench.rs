@@ -6,7 +6,7 @@ use crate::costly;
 use crate::desk;
 use crate::hostile::{self, Hostile};
 use crate::input::Input;
-use crate::lent::{self, Sizes};
+use crate::lent::{self, About, Sizes};
 use crate::random::Dice;
 use crate::shapes::{self, Shape};
 use reference::api::{self, Reply};
@@ -73,7 +73,17 @@ pub fn measured_proved(input: &Input) -> u64 {
 /// counted.
 #[inline(never)]
 fn measured_lent(input: &Input, table: &mut [u64], space: &mut [u64]) -> u64 {
-    lent::decide_on(input, table, space).0
+    lent_once(About::Whole, input, table, space)
+}
+
+#[inline(never)]
+fn measured_part(input: &Input, table: &mut [u64], space: &mut [u64]) -> u64 {
+    lent_once(About::SomePart, input, table, space)
+}
+
+fn lent_once(about: About, input: &Input, table: &mut [u64], space: &mut [u64]) -> u64 {
+    let mut numbers = [0; 4];
+    lent::decide_on(about, input, table, space, numbers.each_mut(), &mut 0)
 }
 
 #[inline(never)]
@@ -260,16 +270,12 @@ fn hostile_row(hostile: &Hostile) {
 /// One call on a named pool, for instruction counts.
 pub fn once(name: &str, which: &str) -> Option<u64> {
     let (_, input) = pools().into_iter().find(|(pool, _)| pool == name)?;
+    let Sizes { lines, words } = Sizes::OWN;
+    let (mut table, mut space) = (vec![0; lines], vec![0; words]);
     match which {
         "proved" => Some(measured_proved(&input)),
-        "lent" => {
-            let Sizes { lines, words } = Sizes::OWN;
-            Some(measured_lent(
-                &input,
-                &mut vec![0; lines],
-                &mut vec![0; words],
-            ))
-        }
+        "lent" => Some(measured_lent(&input, &mut table, &mut space)),
+        "part" => Some(measured_part(&input, &mut table, &mut space)),
         "reference" => Some(measured_reference(&input)),
         _ => None,
     }

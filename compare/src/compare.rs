@@ -3,14 +3,15 @@
 use crate::desk;
 use crate::differences::{call, Call};
 use crate::input::{hex, Input};
-use crate::judge::{self, Table};
-use crate::lent::{self, Manner, Sizes, MOST_LINES};
+use crate::judge::{self, Expected, Table};
+use crate::lent::{self, About, Answer, Manner, Sizes, MOST_LINES};
+use crate::parts;
 use crate::patience;
 use crate::random::Dice;
 use crate::sizes;
 use crate::tally::Tally;
-use crate::unfoldings::{bytes, lines_of, words_of, Line};
-use reference::api::{self, Outcome, Reply, DESK_BYTES};
+use crate::unfoldings::{bytes_of, lines_of, words_of, Line};
+use reference::api::{self, Outcome, PartReply, Reply, DESK_BYTES};
 use std::path::PathBuf;
 use std::time::{Duration, Instant};
 
@@ -21,6 +22,12 @@ const PROGRESS_EVERY: Duration = Duration::from_secs(10);
 
 /// One of so many inputs is asked with lent memory of other sizes as well.
 const SIZES_SHARE: u64 = 2;
+
+/// Of each kind that matters there must be so many inputs in a run of all.
+const ENOUGH: u64 = 100;
+
+/// For one of so many inputs the reference is asked for a part of its own.
+const OWN_PART_SHARE: u64 = 4;
 
 /// When to stop, for a run that has no end of its own.
 #[derive(Clone, Copy)]
@@ -50,13 +57,31 @@ pub struct Comparer {
     progress: Option<Instant>,
 }
 
-/// What came of an input: the reference's reply, unless that needs too long,
-/// and where the pool fits the reference's unfolding, and the engine's if it
-/// is another.
+/// What came of an input; nothing after a difference.
 #[derive(Default)]
 pub struct Decided {
+    /// The reference's, unless that needs too long.
     pub reply: Option<Reply>,
+    /// Where the pool fits: the reference's unfolding, and the engine's if it
+    /// is another.
     pub unfoldings: Vec<Vec<Line>>,
+    /// Unfoldings of some of them that are not among the others: the engine's,
+    /// and of some inputs the reference's.
+    pub of_parts: Vec<Vec<Line>>,
+}
+
+impl Decided {
+    pub fn all_unfoldings(self) -> Vec<Vec<Line>> {
+        [self.unfoldings, self.of_parts].concat()
+    }
+}
+
+/// What came of both questions on lent memory, without lines where nothing
+/// fits.
+struct Both {
+    whole: Vec<Line>,
+    parts: Vec<u16>,
+    part: Vec<Line>,
 }
 
 impl Comparer {
@@ -95,15 +120,18 @@ impl Comparer {
         self.turns.is_multiple_of(self.thin)
     }
 
-    /// The engine: the desk's entry, and the one on lent memory.
+    /// The engine: the desk's entry, and those on lent memory.
     pub fn decide(&mut self, input: &Input) -> Decided {
         let Some(outcome) = self.reference(input, Sizes::OWN) else {
             return Decided::default();
         };
         let reply = outcome.reply;
         self.desk_decide(input, reply);
-        let lines = self.lend(input, Sizes::OWN, reply, Table::of(&outcome));
+        let both = self.lend_both(input, Sizes::OWN, reply, Table::of(&outcome));
         self.counted();
+        let Some(both) = both else {
+            return Decided::default();
+        };
         self.decided += 1;
         if self.decided.is_multiple_of(SIZES_SHARE) {
             let sizes = sizes::drawn(&mut self.dice, reply);
@@ -112,14 +140,43 @@ impl Comparer {
         if self.decided.is_multiple_of(self.program_share) && !input.book.is_empty() {
             self.program_replies(&[&input.bench_bytes()], reply);
         }
-        let mut unfoldings = vec![lines_of(&outcome), lines];
+        let mut unfoldings = vec![lines_of(&outcome.memory, reply.lines), both.whole];
         unfoldings.dedup();
         self.tally.lent.own_unfoldings += unfoldings.len() as u64 - 1;
         unfoldings.retain(|lines| !lines.is_empty());
+        let mut of_parts = vec![both.part];
+        if self.decided.is_multiple_of(OWN_PART_SHARE) {
+            of_parts.push(self.reference_part(input, reply, &both.parts));
+        }
+        of_parts.dedup();
+        of_parts.retain(|lines| !lines.is_empty() && !unfoldings.contains(lines));
         Decided {
             reply: Some(reply),
             unfoldings,
+            of_parts,
         }
+    }
+
+    /// The reference's own answer about some part, which should be the first of
+    /// those that fit. Gives its unfolding.
+    fn reference_part(&mut self, input: &Input, reply: Reply, parts: &[u16]) -> Vec<Line> {
+        let [book, snapshot, question] = input.sections();
+        let Sizes { lines, words } = Sizes::OWN;
+        let outcome = api::decide_part(book, snapshot, question, lines, words);
+        let expected = PartReply {
+            refusal: reply.refusal,
+            verdict: !parts.is_empty() as u32,
+            part: parts.first().copied().unwrap_or(0),
+            facts: reply.facts,
+            rounds: reply.rounds,
+            lines: outcome.reply.lines,
+        };
+        if outcome.reply != expected {
+            let what = "the reference's two questions";
+            let wrong = format!("{:?}; should be {expected:?}", outcome.reply);
+            self.wrong(call(what, input), &wrong);
+        }
+        lines_of(&outcome.memory, outcome.reply.lines)
     }
 
     /// The engine on an input whose reply is known from how it was made, so
@@ -139,7 +196,7 @@ impl Comparer {
     /// unless that needs too long.
     pub fn decide_lent(&mut self, input: &Input, sizes: Sizes) -> Option<Reply> {
         let outcome = self.reference(input, sizes)?;
-        self.lend(input, sizes, outcome.reply, Table::of(&outcome));
+        self.lend_both(input, sizes, outcome.reply, Table::of(&outcome));
         self.tally.lent.other_sizes += 1;
         self.counted();
         Some(outcome.reply)
@@ -168,32 +225,90 @@ impl Comparer {
         self.unchanged(input, &lent);
     }
 
+    /// Both questions, on memory of these sizes. The one about some part leaves
+    /// the same table, where the reference finds the parts that fit. Nothing
+    /// comes of answers that are wrong.
+    fn lend_both(
+        &mut self,
+        input: &Input,
+        sizes: Sizes,
+        reply: Reply,
+        table: Table,
+    ) -> Option<Both> {
+        let (answer, whole) = self.lend(input, sizes, &Expected::whole(reply, table))?;
+        let words = answer.table.lent();
+        let parts = parts::fitting(input, &words[..reply.facts]);
+        self.whole_among(input, reply, &parts);
+        let table = match table {
+            Table::AsFound => Table::AsFound,
+            _ => Table::Words(words),
+        };
+        let expected = Expected::some_part(reply, table, &parts);
+        let (answer, part) = self.lend(input, sizes, &expected)?;
+        let (every, returned) = (parts::every_record(input), answer.part.lent()[0]);
+        self.tally.parts.saw(reply, &parts, every, returned);
+        Some(Both { whole, parts, part })
+    }
+
+    /// The whole pool fits exactly if it is one of the parts that do.
+    fn whole_among(&mut self, input: &Input, reply: Reply, parts: &[u16]) {
+        let among = parts.contains(&parts::every_record(input));
+        if among != (reply.verdict == 1) {
+            let what = "the reference's verdict and its parts";
+            self.other_number(call(what, input), number(reply), among as u64);
+        }
+    }
+
     /// Lends memory of these sizes, and looks at all of it after the call.
-    /// Gives the engine's unfolding, which the check must take as well.
-    fn lend(&mut self, input: &Input, sizes: Sizes, reply: Reply, table: Table) -> Vec<Line> {
+    /// Gives the answer if it is right, and the engine's unfolding, which the
+    /// check must take as well.
+    fn lend(
+        &mut self,
+        input: &Input,
+        sizes: Sizes,
+        expected: &Expected,
+    ) -> Option<(Answer, Vec<Line>)> {
+        let about = expected.about();
         let lent = exact(input);
         let manner = self.manner();
-        let by_words = matches!(table, Table::Words(_));
         let before = Instant::now();
-        let answer = lent::decide(&lent, sizes, manner);
+        let answer = lent::decide(about, &lent, sizes, manner);
         self.tally.proved.saw(before.elapsed(), input, sizes);
         self.tally.lent.calls += 1;
-        let lines = match judge::decided(input, reply, table, &answer) {
+        let right = match judge::decided(input, expected, &answer) {
             Ok(lines) => {
-                self.tally.lent.saw(reply, by_words);
-                lines
+                let by_words = matches!(expected.table, Table::Words(_));
+                self.tally.lent.saw(expected.reply, by_words);
+                self.check_own(about, &lent, &answer, &lines);
+                Some((answer, lines))
             }
             Err(wrong) => {
-                let call = call("shapes_decide", input).lent(sizes, manner.dirt);
-                self.wrong(call, &wrong);
-                Vec::new()
+                let call = call(about.entry(), input);
+                self.wrong(call.lent(sizes, manner.dirt), &wrong);
+                None
             }
         };
-        if !lines.is_empty() {
-            self.check_words(&lent, &bytes(&lines), 1);
-        }
         self.unchanged(input, &lent);
-        lines
+        right
+    }
+
+    /// The engine's unfolding, which the reference took: for the part that it
+    /// was returned with, and for some other.
+    fn check_own(&mut self, about: About, input: &Input, answer: &Answer, lines: &[Line]) {
+        if lines.is_empty() {
+            return;
+        }
+        let words = lines.concat();
+        if about == About::Whole {
+            self.check_words(None, input, &words, (0, 1));
+            return;
+        }
+        let part = answer.part.lent()[0];
+        self.check_words(Some(part), input, &words, (0, 1));
+        let other = parts::other(&mut self.dice, part, parts::every_record(input));
+        let expected = judge::reference_check(Some(other), input, &words);
+        self.check_words(Some(other), input, &words, expected);
+        self.tally.parts.not_for_another += (expected.1 == 0) as u64;
     }
 
     /// Dirt of any kind.
@@ -210,7 +325,7 @@ impl Comparer {
         }
     }
 
-    /// The check: the desk's entry, and the one that gets words.
+    /// The check: the desk's entry, and those that get words.
     pub fn check(&mut self, input: &Input, unfolding: &[u8]) {
         let lent = exact(input);
         let [book, snapshot, question] = lent.sections();
@@ -226,28 +341,54 @@ impl Comparer {
             let call = call("desk_check", input).with(unfolding);
             self.other_number(call, expected, answer);
         }
-        self.check_words(&lent, unfolding, expected);
+        self.check_parts(&lent, unfolding, expected);
         self.unchanged(input, &lent);
         self.counted();
     }
 
-    /// As the desk's entry, but with no limit of its own. A rest that is no
-    /// word is left out.
-    fn check_words(&mut self, input: &Input, unfolding: &[u8], of_desk: u64) {
+    /// As the desk's entry, but with no limit of its own, and a rest that is no
+    /// word is left out. With every record for a part it should come to the
+    /// same; and then two more parts.
+    fn check_parts(&mut self, input: &Input, unfolding: &[u8], of_desk: u64) {
         let words = words_of(unfolding);
-        let expected = if unfolding.len() <= DESK_BYTES && unfolding.len().is_multiple_of(8) {
+        let of_whole = if unfolding.len() <= DESK_BYTES && unfolding.len().is_multiple_of(8) {
             ((of_desk / 2) as u32, (of_desk % 2) as u32)
         } else {
-            let [book, snapshot, question] = input.sections();
-            api::check(book, snapshot, question, &words)
+            judge::reference_check(None, input, &words)
         };
+        let every = parts::every_record(input);
+        let last = parts::of_last_line(&words);
+        self.check_words(None, input, &words, of_whole);
+        self.check_words(Some(every), input, &words, of_whole);
+        for part in [last, parts::other(&mut self.dice, last, every)] {
+            if part != every {
+                let expected = judge::reference_check(Some(part), input, &words);
+                self.check_words(Some(part), input, &words, expected);
+            }
+        }
+    }
+
+    /// The check for this part, or for the whole pool.
+    fn check_words(
+        &mut self,
+        part: Option<u16>,
+        input: &Input,
+        words: &[u64],
+        expected: (u32, u32),
+    ) {
         let manner = self.manner();
-        let checked = lent::check(input, &words, manner);
-        self.tally.lent.checks += 1;
-        self.tally.lent.taken += expected.1 as u64;
-        if let Err(wrong) = judge::checked(expected, &words, &checked) {
-            let call = call("shapes_check", input).with(unfolding);
-            let call = call.lent(Sizes::OWN, manner.dirt);
+        let checked = lent::check(part, input, words, manner);
+        match part {
+            None => self.tally.lent.checked(expected.1),
+            Some(part) => {
+                let every = parts::every_record(input);
+                self.tally.parts.checked(part, every, expected.1);
+            }
+        }
+        if let Err(wrong) = judge::checked(expected, words, &checked) {
+            let unfolding = bytes_of(words);
+            let call = call(lent::check_entry(part), input).with(&unfolding);
+            let call = call.part(part).lent(Sizes::OWN, manner.dirt);
             self.wrong(call, &wrong);
         }
     }
@@ -256,7 +397,7 @@ impl Comparer {
     /// with the fingerprint of the table.
     pub fn kept(&mut self, input: &Input, reply: Reply, print: u64) {
         self.desk_decide(input, reply);
-        self.lend(input, Sizes::OWN, reply, Table::Kept(print));
+        self.lend_both(input, Sizes::OWN, reply, Table::Kept(print));
         self.counted();
         if reply.facts > 1 {
             let full = Reply {
@@ -264,9 +405,9 @@ impl Comparer {
                 ..Reply::default()
             };
             let nothing = Table::Kept(judge::fingerprint(&[]));
-            self.lend(input, Sizes::of(reply.facts), reply, Table::Kept(print));
-            self.lend(input, Sizes::of(reply.facts - 1), full, nothing);
-            self.lend(input, Sizes::of(MOST_LINES), reply, Table::Kept(print));
+            self.lend_both(input, Sizes::of(reply.facts), reply, Table::Kept(print));
+            self.lend_both(input, Sizes::of(reply.facts - 1), full, nothing);
+            self.lend_both(input, Sizes::of(MOST_LINES), reply, Table::Kept(print));
         }
         self.program_replies(&[&input.bench_bytes()], reply);
     }
@@ -336,6 +477,11 @@ impl Comparer {
             println!("{}", self.summary());
             std::process::exit(1);
         }
+    }
+
+    /// Kinds of input of which a run of all pools had too few.
+    pub fn missing(&self) -> Vec<&'static str> {
+        self.tally.missing((ENOUGH / self.thin).max(1))
     }
 
     pub fn summary(&self) -> String {

@@ -8,6 +8,7 @@ pub struct Call<'a> {
     name: &'a str,
     input: &'a Input,
     unfolding: Option<&'a [u8]>,
+    part: Option<u16>,
     lent: Option<(Sizes, u64)>,
 }
 
@@ -16,6 +17,7 @@ pub fn call<'a>(name: &'a str, input: &'a Input) -> Call<'a> {
         name,
         input,
         unfolding: None,
+        part: None,
         lent: None,
     }
 }
@@ -23,6 +25,11 @@ pub fn call<'a>(name: &'a str, input: &'a Input) -> Call<'a> {
 impl<'a> Call<'a> {
     pub fn with(mut self, unfolding: &'a [u8]) -> Call<'a> {
         self.unfolding = Some(unfolding);
+        self
+    }
+
+    pub fn part(mut self, part: Option<u16>) -> Call<'a> {
+        self.part = part;
         self
     }
 
@@ -37,6 +44,7 @@ impl<'a> Call<'a> {
         if let Some((Sizes { lines, words: size }, dirt)) = self.lent {
             words.push(format!("--lent {lines} {size} --dirt {dirt}"));
         }
+        words.extend(self.part.map(|part| format!("--part {part}")));
         let sections = self.input.sections().map(Vec::as_slice);
         let parts = sections.into_iter().chain(self.unfolding);
         words.extend(parts.map(|part| {

@@ -2,12 +2,49 @@
 //! it was lent.
 
 use crate::input::Input;
-use crate::lent::{Answer, Block, Checked};
+use crate::lent::{About, Answer, Block, Checked};
 use crate::unfoldings::{called_line, lines_of_words, Line};
 use reference::api::{self, Outcome, Reply};
 use std::collections::HashSet;
 
+/// What a call of the engine should give.
+pub struct Expected<'a> {
+    pub reply: Reply,
+    pub table: Table<'a>,
+    /// The parts that fit, where the question was whether some part does.
+    pub parts: Option<&'a [u16]>,
+}
+
+impl<'a> Expected<'a> {
+    pub fn whole(reply: Reply, table: Table<'a>) -> Expected<'a> {
+        Expected {
+            reply,
+            table,
+            parts: None,
+        }
+    }
+
+    /// About some part, where these fit: all but the verdict is as for the
+    /// whole pool.
+    pub fn some_part(whole: Reply, table: Table<'a>, parts: &'a [u16]) -> Expected<'a> {
+        let verdict = !parts.is_empty() as u32;
+        Expected {
+            reply: Reply { verdict, ..whole },
+            table,
+            parts: Some(parts),
+        }
+    }
+
+    pub fn about(&self) -> About {
+        match self.parts {
+            None => About::Whole,
+            Some(_) => About::SomePart,
+        }
+    }
+}
+
 /// What the table should be.
+#[derive(Clone, Copy)]
 pub enum Table<'a> {
     /// What it was before, and so should the space be.
     AsFound,
@@ -21,6 +58,14 @@ impl Table<'_> {
         match &outcome.memory {
             None => Table::AsFound,
             Some(memory) => Table::Words(&memory.table),
+        }
+    }
+
+    /// The facts that are known by their words, of so many as the reply says.
+    pub fn facts(&self, reply: Reply) -> &[u64] {
+        match self {
+            Table::Words(words) => &words[..reply.facts],
+            _ => &[],
         }
     }
 
@@ -60,22 +105,35 @@ fn says(right: bool, wrong: &str) -> Result<(), String> {
 
 /// Gives the engine's unfolding, without lines if there is none, or what is
 /// wrong.
-pub fn decided(
-    input: &Input,
-    reply: Reply,
-    table: Table,
-    answer: &Answer,
-) -> Result<Vec<Line>, String> {
-    numbers(reply, answer)?;
+pub fn decided(input: &Input, expected: &Expected, answer: &Answer) -> Result<Vec<Line>, String> {
+    numbers(expected.reply, answer)?;
     borders(answer)?;
-    table.agrees(answer)?;
-    if matches!(table, Table::AsFound) {
+    part(expected, answer)?;
+    expected.table.agrees(answer)?;
+    if matches!(expected.table, Table::AsFound) {
         return Ok(Vec::new());
     }
     let (written, rest) = answer.space.lent().split_at(3 * written_lines(answer));
     says(is_zero(rest), "the space is not 0 after the last line")?;
-    unfolding(input, written)
+    let part = expected.parts.map(|_| answer.part.lent()[0]);
+    unfolding(input, part, written)
 }
+
+/// Any part that fits will do; without one it is 0.
+fn part(expected: &Expected, answer: &Answer) -> Result<(), String> {
+    let Some(parts) = expected.parts else {
+        return Ok(());
+    };
+    let part = answer.part.lent()[0];
+    if parts.contains(&part) || parts.is_empty() && part == 0 {
+        return Ok(());
+    }
+    let (count, some) = (parts.len(), &parts[..parts.len().min(SHOWN_PARTS)]);
+    Err(format!("the part is {part}; {count} fit, first {some:?}"))
+}
+
+/// Of the parts that fit, so many are shown with a difference.
+const SHOWN_PARTS: usize = 4;
 
 fn written_lines(answer: &Answer) -> usize {
     answer.numbers[3].lent()[0] as usize
@@ -109,7 +167,7 @@ fn numbers(expected: Reply, answer: &Answer) -> Result<(), String> {
 fn borders(answer: &Answer) -> Result<(), String> {
     let lent = [&answer.table, &answer.space];
     let mut blocks = lent.into_iter().chain(&answer.numbers);
-    let kept = blocks.all(Block::kept_to_itself);
+    let kept = blocks.all(Block::kept_to_itself) && answer.part.kept_to_itself();
     says(kept, "a word beside the lent memory was written")
 }
 
@@ -125,13 +183,12 @@ fn same_words(expected: &[u64], given: &[u64]) -> Result<(), String> {
 
 /// What the engine's unfolding has beyond what the check asks: its facts differ,
 /// and a later line calls every line before the last.
-fn unfolding(input: &Input, words: &[u64]) -> Result<Vec<Line>, String> {
+fn unfolding(input: &Input, part: Option<u16>, words: &[u64]) -> Result<Vec<Line>, String> {
     let lines = lines_of_words(words);
     if lines.is_empty() {
         return Ok(lines);
     }
-    let [book, snapshot, question] = input.sections();
-    let taken = api::check(book, snapshot, question, words) == (0, 1);
+    let taken = reference_check(part, input, words) == (0, 1);
     says(taken, "the reference does not take the unfolding")?;
     let mut facts = HashSet::new();
     let once = lines.iter().all(|line| facts.insert(line[0]));
@@ -149,6 +206,15 @@ fn unfolding(input: &Input, words: &[u64]) -> Result<Vec<Line>, String> {
     let all = called.iter().rev().skip(1).all(|&called| called);
     says(all, "a line of the unfolding is not called")?;
     Ok(lines)
+}
+
+/// What the reference's check says: refusal, and 1 if taken.
+pub fn reference_check(part: Option<u16>, input: &Input, words: &[u64]) -> (u32, u32) {
+    let [book, snapshot, question] = input.sections();
+    match part {
+        None => api::check(book, snapshot, question, words),
+        Some(part) => api::check_part(book, snapshot, question, part, words),
+    }
 }
 
 /// Refusal and 1 if taken, and nothing else.

@@ -15,6 +15,7 @@ mod input;
 mod judge;
 mod lent;
 mod mutate;
+mod parts;
 mod patience;
 mod pools;
 mod random;
@@ -34,8 +35,8 @@ const USAGE: &str = "usage: compare [--seed N] [--long [COUNT | SECONDSs]] [--th
                [--pool NAME] [--program PATH | --no-program] [--exact]
        compare --bench [POOL...]
        compare --names
-       compare --once POOL proved|lent|reference
-       compare --input [--lent LINES WORDS] [--dirt N]
+       compare --once POOL proved|lent|part|reference
+       compare --input [--lent LINES WORDS] [--dirt N] [--part N]
                BOOK SNAPSHOT QUESTION [UNFOLDING]   (in hex, - for none)
        compare --self-test
        compare --write-hostile";
@@ -136,8 +137,16 @@ fn compare_all(options: Options) -> ExitCode {
         }
     }
     comparer.tally.print();
+    // Of some pools alone, no kind is asked for.
+    let missing = match options.pool.as_str() {
+        "" => comparer.missing(),
+        _ => Vec::new(),
+    };
+    for kind in &missing {
+        println!("too few inputs: {kind}");
+    }
     println!("{}", comparer.summary());
-    ExitCode::from((comparer.differences > 0) as u8)
+    ExitCode::from((comparer.differences > 0 || !missing.is_empty()) as u8)
 }
 
 /// A seed that nobody chose.

@@ -17,6 +17,7 @@ pub struct Tally {
     /// Inputs for which the reference needs too long.
     pub passed_over: u64,
     pub lent: Lent,
+    pub parts: Parts,
     pub proved: Slowest,
     pub reference: Slowest,
 }
@@ -33,8 +34,8 @@ pub struct Lent {
     /// Inputs for which the engine's unfolding is not the reference's.
     pub own_unfoldings: u64,
     refusals: [u64; 12],
-    pub checks: u64,
-    pub taken: u64,
+    checks: u64,
+    taken: u64,
 }
 
 impl Lent {
@@ -45,6 +46,11 @@ impl Lent {
         self.refusals[reply.refusal as usize] += 1;
     }
 
+    pub fn checked(&mut self, taken: u32) {
+        self.checks += 1;
+        self.taken += taken as u64;
+    }
+
     fn print(&self) {
         println!(
             "lent memory: {} calls, {} with other sizes, {} refusal 10, {} refusal 11; check: {}, {} taken",
@@ -53,6 +59,115 @@ impl Lent {
         println!(
             "{} tables the same word by word; {} unfoldings of the engine taken by the reference, whose own was another for {} inputs",
             self.tables, self.unfoldings, self.own_unfoldings
+        );
+    }
+}
+
+/// Questions about some part.
+#[derive(Default)]
+pub struct Parts {
+    /// Right answers without a refusal, by what fits.
+    none: u64,
+    empty_alone: u64,
+    proper_alone: u64,
+    whole_alone: u64,
+    several: u64,
+    many: u64,
+    /// Some part fits, and the whole pool does not.
+    not_whole: u64,
+    full_pool: u64,
+    /// The same by the part returned.
+    returned_empty: u64,
+    returned_proper: u64,
+    returned_whole: u64,
+    /// Calls of the check with a part.
+    checks: u64,
+    taken_empty: u64,
+    taken_proper: u64,
+    /// An unfolding that is taken for its own part.
+    pub not_for_another: u64,
+    beyond: u64,
+}
+
+/// So many fitting parts are many.
+const MANY_PARTS: usize = 100;
+
+impl Parts {
+    /// A call that gave what it should: which parts fit, out of every record,
+    /// and which was returned. The reply is that about the whole pool.
+    pub fn saw(&mut self, reply: Reply, parts: &[u16], every: u16, returned: u16) {
+        if reply.refusal != 0 || every == 0 {
+            return;
+        }
+        let (none, one) = (parts.is_empty(), parts.len() == 1);
+        let alone = |part: u16| one && parts[0] == part;
+        self.none += none as u64;
+        self.empty_alone += alone(0) as u64;
+        self.whole_alone += alone(every) as u64;
+        self.proper_alone += (one && !alone(0) && !alone(every)) as u64;
+        self.several += (parts.len() > 1) as u64;
+        self.many += (parts.len() > MANY_PARTS) as u64;
+        self.not_whole += (!none && reply.verdict == 0) as u64;
+        self.full_pool += (!none && every == u16::MAX) as u64;
+        match returned {
+            _ if none => {}
+            0 => self.returned_empty += 1,
+            part if part == every => self.returned_whole += 1,
+            _ => self.returned_proper += 1,
+        }
+    }
+
+    pub fn checked(&mut self, part: u16, every: u16, taken: u32) {
+        self.checks += 1;
+        self.beyond += (part & !every != 0) as u64;
+        if taken == 1 && every != 0 {
+            self.taken_empty += (part == 0) as u64;
+            self.taken_proper += (part != 0 && part != every) as u64;
+        }
+    }
+
+    /// What must have been asked, by what the reference finds: the program may
+    /// return whichever part it likes.
+    fn asked_kinds(&self) -> [(&'static str, u64); 8] {
+        [
+            ("no part fits", self.none),
+            ("the empty part alone", self.empty_alone),
+            ("one that is neither empty nor whole", self.proper_alone),
+            ("the whole pool alone", self.whole_alone),
+            ("several parts", self.several),
+            ("over 100 parts", self.many),
+            ("some part and not the whole pool", self.not_whole),
+            ("some part of 16 records", self.full_pool),
+        ]
+    }
+
+    /// The same of the check.
+    fn checked_kinds(&self) -> [(&'static str, u64); 4] {
+        [
+            ("taken with the empty part", self.taken_empty),
+            ("with one that is neither", self.taken_proper),
+            ("with its own and not with another", self.not_for_another),
+            ("bits beyond the records", self.beyond),
+        ]
+    }
+
+    fn print(&self) {
+        let list = |kinds: &[(&str, u64)]| {
+            let kinds = kinds.iter().map(|(kind, count)| format!("{kind} {count}"));
+            kinds.collect::<Vec<_>>().join(", ")
+        };
+        println!(
+            "some part, of pools with records: {}",
+            list(&self.asked_kinds())
+        );
+        println!(
+            "part returned: {} empty, {} neither, {} the whole pool",
+            self.returned_empty, self.returned_proper, self.returned_whole
+        );
+        println!(
+            "check with a part: {}; {}",
+            self.checks,
+            list(&self.checked_kinds())
         );
     }
 }
@@ -82,6 +197,17 @@ impl Slowest {
 }
 
 impl Tally {
+    /// Kinds of input of which there were fewer than enough.
+    pub fn missing(&self, enough: u64) -> Vec<&'static str> {
+        let kinds = self
+            .parts
+            .asked_kinds()
+            .into_iter()
+            .chain(self.parts.checked_kinds());
+        let few = kinds.filter(|&(_, count)| count < enough);
+        few.map(|(kind, _)| kind).collect()
+    }
+
     pub fn fits(&self) -> u64 {
         self.engine[1]
     }
@@ -97,6 +223,7 @@ impl Tally {
             self.taken, self.not_taken, self.check_refused, self.program, self.passed_over
         );
         self.lent.print();
+        self.parts.print();
         self.proved.print("proved");
         self.reference.print("reference");
     }

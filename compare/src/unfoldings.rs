@@ -4,7 +4,7 @@
 use crate::compare::Comparer;
 use crate::input::Input;
 use crate::random::Dice;
-use reference::api::{Outcome, DESK_BYTES};
+use reference::api::{Memory, DESK_BYTES};
 
 /// Bytes of a line.
 const LINE: usize = 24;
@@ -12,16 +12,15 @@ const LINE: usize = 24;
 /// Up to this many lines, every bit is flipped once.
 const ALL_BITS: usize = 4;
 
-/// Engine and, where the pool fits, check with the reference's unfolding and
-/// with the engine's: whole, and as many times damaged at random. Gives these
-/// unfoldings.
+/// Engine and, where the pool or a part of it fits, check with the unfoldings:
+/// whole, and as many times damaged at random. Gives these unfoldings.
 pub fn decide_and_check(
     comparer: &mut Comparer,
     dice: &mut Dice,
     input: &Input,
     damaged: usize,
 ) -> Vec<Vec<Line>> {
-    let unfoldings = comparer.decide(input).unfoldings;
+    let unfoldings = comparer.decide(input).all_unfoldings();
     for lines in &unfoldings {
         check_lines(comparer, dice, input, lines, damaged);
     }
@@ -50,12 +49,10 @@ pub fn lines_of_words(words: &[u64]) -> Vec<Line> {
     lines.map(|line| [line[0], line[1], line[2]]).collect()
 }
 
-/// The reference's unfolding, without lines if there is none.
-pub fn lines_of(outcome: &Outcome) -> Vec<Line> {
-    let memory = outcome.memory.as_ref();
-    memory.map_or_else(Vec::new, |memory| {
-        lines_of_words(&memory.space[..3 * outcome.reply.lines])
-    })
+/// The reference's unfolding of so many lines.
+pub fn lines_of(memory: &Option<Memory>, lines: usize) -> Vec<Line> {
+    let space = memory.as_ref().map_or(&[][..], |memory| &memory.space);
+    lines_of_words(&space[..3 * lines])
 }
 
 /// The words in these bytes, lowest byte first; a rest is left out.
@@ -66,9 +63,12 @@ pub fn words_of(bytes: &[u8]) -> Vec<u64> {
         .collect()
 }
 
+pub fn bytes_of(words: &[u64]) -> Vec<u8> {
+    words.iter().flat_map(|word| word.to_le_bytes()).collect()
+}
+
 pub fn bytes(lines: &[Line]) -> Vec<u8> {
-    let words = lines.iter().flatten();
-    words.flat_map(|word| word.to_le_bytes()).collect()
+    bytes_of(&lines.concat())
 }
 
 /// The unfolding with one thing wrong, or at least different.
