@@ -65,6 +65,8 @@ pub struct Decided {
     /// Where the pool fits: the reference's unfolding, and the engine's if it
     /// is another.
     pub unfoldings: Vec<Vec<Line>>,
+    /// The parts that fit, by the reference.
+    pub parts: Vec<u16>,
     /// Unfoldings of some of them that are not among the others: the engine's,
     /// and of some inputs the reference's.
     pub of_parts: Vec<Vec<Line>>,
@@ -153,6 +155,7 @@ impl Comparer {
         Decided {
             reply: Some(reply),
             unfoldings,
+            parts: both.parts,
             of_parts,
         }
     }
@@ -188,6 +191,18 @@ impl Comparer {
                 let what = "the reference and how the input was made";
                 self.other_number(call(what, input), number(reply), fits as u64);
             }
+        }
+        decided
+    }
+
+    /// The engine on an input of which this part is known to fit.
+    pub fn decide_with(&mut self, input: &Input, part: u16) -> Decided {
+        let decided = self.decide(input);
+        let answered = decided.reply.is_some_and(|reply| reply.refusal != 11);
+        if answered && !decided.parts.contains(&part) {
+            let what = "the reference and how the input was made";
+            let wrong = format!("the part {part} is not among those that fit");
+            self.wrong(call(what, input), &wrong);
         }
         decided
     }

@@ -23,6 +23,7 @@ mod selftest;
 mod shapes;
 mod sizes;
 mod small;
+mod strangers;
 mod tally;
 mod unfoldings;
 

@@ -9,9 +9,10 @@ use crate::hostile;
 use crate::input::{Book, Heap, Input, Query, MOST_RECORDS};
 use crate::mutate;
 use crate::random::Dice;
-use crate::shapes;
+use crate::shapes::{self, Shape};
 use crate::sizes;
 use crate::small;
+use crate::strangers;
 use crate::unfoldings::{self, Line};
 use reference::domain::Domain;
 use reference::{fact, fixpoint, formats};
@@ -58,7 +59,7 @@ const FIXED: [Pool; 6] = [
 ];
 
 /// Those that may be repeated with other numbers.
-const RANDOM: [Pool; 5] = [
+const RANDOM: [Pool; 6] = [
     Pool {
         name: "usual shapes",
         program_share: 20,
@@ -83,6 +84,11 @@ const RANDOM: [Pool; 5] = [
         name: "damaged unfoldings",
         program_share: 100,
         run: damaged_unfoldings,
+    },
+    Pool {
+        name: "parts of pools",
+        program_share: 150,
+        run: parts_of_pools,
     },
 ];
 
@@ -343,6 +349,12 @@ fn damaged_unfoldings(comparer: &mut Comparer, dice: &mut Dice) {
             every_damage(comparer, dice, &input);
         }
     }
+    for size in [1, 3] {
+        for shape in shapes::all(dice, size) {
+            let (input, _) = among_strangers(dice, &shape, 2);
+            every_damage(comparer, dice, &input);
+        }
+    }
     for _ in 0..40 {
         let (size, records) = sizes(dice);
         let book = any_book(dice, size);
@@ -355,7 +367,50 @@ fn every_damage(comparer: &mut Comparer, dice: &mut Dice, input: &Input) {
     if !comparer.takes_turn() {
         return;
     }
-    for lines in comparer.decide(input).unfoldings {
+    for lines in comparer.decide(input).all_unfoldings() {
         unfoldings::every_damage(comparer, dice, input, &lines);
     }
+}
+
+/// Pools that fit, among further records: few, or as many as there may be.
+fn parts_of_pools(comparer: &mut Comparer, dice: &mut Dice) {
+    for size in 0..=MOST_RECORDS {
+        for shape in shapes::all(dice, size) {
+            if comparer.takes_turn() {
+                part_of_pool(comparer, dice, &shape);
+            }
+        }
+    }
+    for _ in 0..2_000 {
+        if !comparer.takes_turn() {
+            continue;
+        }
+        let (size, records) = sizes(dice);
+        let book = any_book(dice, size);
+        let (heap, query) = grow::grow(dice, &book, records);
+        if let Some((heap, query)) = fitting_part(dice, &book, &heap, &query) {
+            part_of_pool(comparer, dice, &Shape { book, heap, query });
+        }
+    }
+}
+
+fn part_of_pool(comparer: &mut Comparer, dice: &mut Dice, shape: &Shape) {
+    let room = MOST_RECORDS - shape.heap.records.len();
+    let more = match dice.below(3) {
+        0 => room,
+        1 => dice.below(room + 1),
+        _ => room.min(2),
+    };
+    let (input, part) = among_strangers(dice, shape, more);
+    for lines in comparer.decide_with(&input, part).all_unfoldings() {
+        unfoldings::check_lines(comparer, dice, &input, &lines, 3);
+        forged(comparer, dice, &shape.book, &input, &lines, 1);
+    }
+}
+
+/// The shape among so many further records, and which part it is.
+fn among_strangers(dice: &mut Dice, shape: &Shape, more: usize) -> (Input, u16) {
+    let weights = generate::field_weights(&shape.book);
+    let (heap, part) = strangers::add(dice, &shape.heap, more, &weights);
+    (Input::new(&shape.book, &heap, &shape.query), part)
 }
