@@ -22,9 +22,10 @@ struct block {
     size_t len;
 };
 
-enum entry { NOTHING, DESK_DECIDE, DESK_CHECK, SHAPES_DECIDE, SHAPES_CHECK, ENTRIES };
+enum entry { NOTHING, DESK_DECIDE, DESK_CHECK, SHAPES_DECIDE, SHAPES_CHECK, SHAPES_PART, SHAPES_CHECK_PART, ENTRIES };
 
-static const char *const entry_names[] = {"", "desk_decide", "desk_check", "shapes_decide", "shapes_check"};
+static const char *const entry_names[] = {"",           "desk_decide", "desk_check",       "shapes_decide",
+                                          "shapes_check", "shapes_part", "shapes_check_part"};
 
 enum { VERDICT, FACTS, ROUNDS, LINES, NUMBERS };
 
@@ -34,6 +35,7 @@ struct call {
     enum entry entry;
     struct block sections[3], unfolding, table, space;
     uint64_t *numbers[NUMBERS];
+    uint16_t *part;
     uint64_t answer;
 };
 
@@ -97,6 +99,13 @@ static void *run(void *data)
     if (call->entry == SHAPES_CHECK)
         call->answer = shapes_check(p[0].bytes, p[0].len, p[1].bytes, p[1].len, p[2].bytes, p[2].len,
                                     (const uint64_t *)u->bytes, u->len / 8, n[VERDICT]);
+    if (call->entry == SHAPES_PART)
+        call->answer = shapes_part(p[0].bytes, p[0].len, p[1].bytes, p[1].len, p[2].bytes, p[2].len,
+                                   (uint64_t *)t->bytes, t->len / 8, (uint64_t *)s->bytes, s->len / 8,
+                                   n[VERDICT], call->part, n[FACTS], n[ROUNDS], n[LINES]);
+    if (call->entry == SHAPES_CHECK_PART)
+        call->answer = shapes_check_part(p[0].bytes, p[0].len, p[1].bytes, p[1].len, p[2].bytes, p[2].len,
+                                         *call->part, (const uint64_t *)u->bytes, u->len / 8, n[VERDICT]);
     return NULL;
 }
 
@@ -149,23 +158,31 @@ static void desk(struct call *call)
 
 /* The engine with a table of so many lines; then the check with the unfolding
    that it wrote, and with the whole space. */
-static void shapes(struct call *call, size_t lines)
+static void lend(struct call *call, size_t lines, enum entry engine, enum entry check)
 {
     call->table = painted(8 * lines);
     call->space = painted(24 * lines);
-    make(call, SHAPES_DECIDE);
+    make(call, engine);
     printf("; %llu", (unsigned long long)call->answer);
     for (int i = 0; i < NUMBERS; i++)
         printf(" %llu", (unsigned long long)*call->numbers[i]);
+    if (engine == SHAPES_PART)
+        printf(" part %u", *call->part);
     size_t lengths[] = {24 * (size_t)*call->numbers[LINES], call->space.len};
     for (int i = 0; i < 2; i++) {
         call->unfolding = block_of(call->space.bytes, lengths[i]);
-        make(call, SHAPES_CHECK);
+        make(call, check);
         printf(", %llu %llu", (unsigned long long)call->answer, (unsigned long long)*call->numbers[VERDICT]);
         free(call->unfolding.bytes);
     }
     free(call->table.bytes);
     free(call->space.bytes);
+}
+
+static void shapes(struct call *call, size_t lines)
+{
+    lend(call, lines, SHAPES_DECIDE, SHAPES_CHECK);
+    lend(call, lines, SHAPES_PART, SHAPES_CHECK_PART);
 }
 
 int main(int count, char **names)
@@ -177,6 +194,7 @@ int main(int count, char **names)
     thread_itself = measured ? stack_of(&call) : 0;
     for (int i = 0; i < NUMBERS; i++)
         call.numbers[i] = (uint64_t *)painted(8).bytes;
+    call.part = (uint16_t *)painted(2).bytes;
     for (int i = 1 + measured; i < count; i++) {
         FILE *file = fopen(names[i], "rb");
         if (!file) {
@@ -195,6 +213,7 @@ int main(int count, char **names)
     }
     for (int i = 0; i < NUMBERS; i++)
         free(call.numbers[i]);
+    free(call.part);
     for (int entry = DESK_DECIDE; measured && entry < ENTRIES; entry++)
         printf("stack: %s %zu bytes\n", entry_names[entry], most[entry]);
     return 0;
