@@ -1,6 +1,6 @@
 #!/usr/bin/env bash
 # Instructions of one call on each named pool, counted by callgrind: the desk's
-# entry, which brings its own memory, the library's on lent memory of the same
+# entry, which brings its own memory, the library's two on lent memory of the same
 # size, and the reference. Names of pools may be given; `compare --names` lists them.
 set -euo pipefail
 cd "$(dirname "$0")"
@@ -17,12 +17,13 @@ count() {
 }
 
 if [ $# -gt 0 ]; then pools=("$@"); else mapfile -t pools < <("$program" --names); fi
-echo "| pool | proved | proved, lent memory | reference | reference / proved |"
-echo "|-|-|-|-|-|"
+echo "| pool | proved | proved, lent memory | proved, some part | reference | reference / proved |"
+echo "|-|-|-|-|-|-|"
 for pool in "${pools[@]}"; do
     proved=$(count "$pool" proved)
     lent=$(count "$pool" lent)
+    part=$(count "$pool" part)
     reference=$(count "$pool" reference)
-    awk -v p="$pool" -v a="$proved" -v l="$lent" -v b="$reference" \
-        'BEGIN { printf "| %s | %d | %d | %d | %.1f |\n", p, a, l, b, b / a }'
+    awk -v p="$pool" -v a="$proved" -v l="$lent" -v s="$part" -v b="$reference" \
+        'BEGIN { printf "| %s | %d | %d | %d | %d | %.1f |\n", p, a, l, s, b, b / a }'
 done
