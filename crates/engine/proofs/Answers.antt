@@ -1,5 +1,5 @@
 -- From what the reader says to the contracts: the ways out of every public call whose input is book, snapshot and question.
-use mathlib.Core.{Bool.Bool, Bool.false, Path._≡_, Path.refl, Path.ap, Logic._↔_, List.List}
+use mathlib.Core.{Bool.Bool, Bool.true, Path._≡_, Path.refl, Path.ap, Logic._↔_, List.List}
 use Prim.Native.Nat.{ℕ, _≤_}
 use lib.ListN.{length}
 use Rattle.semantics.specs.{Reader.Result, Refusals.memorySize, Formats.Input, Formats.ladder, Formats.WellFormedInput, Served.Served}
@@ -34,10 +34,10 @@ module _ {book snapshot question rules heap query : List ℕ} {r : Ladder} where
     answered h q l k = Served.answered (inputIn rules heap query) (is-accepted (rw q at h)) l k
 
 -- What is taken for the part that was chosen, of what was read.
-pub chosen-taken : (all : Bool) (part : ℕ) (rules heap query words : List ℕ) {of : ℕ} → of ≡ partFor all part (heapIn heap)
-    → CertificatePart (inputIn rules heap query) of words ↔ CertificatePart (inputIn rules heap query) (chosenPart all part (inputIn rules heap query)) words
+pub chosen-taken : (flag : Bool) (part : ℕ) (rules heap query words : List ℕ) {of : ℕ} → of ≡ partFor flag part (heapIn heap)
+    → CertificatePart (inputIn rules heap query) of words ↔ CertificatePart (inputIn rules heap query) (chosenPart flag part (inputIn rules heap query)) words
 unfolding inputIn
-chosen-taken all part rules heap query words e = rw e (λ t. t, λ t. t)
+chosen-taken flag part rules heap query words e = rw e (λ t. t, λ t. t)
 
 -- Every record of what was read.
 pub every-part : (rules heap query : List ℕ) {part : ℕ} → part ≡ wholeOf (heapIn heap) → part ≡ wholeOf (inputIn rules heap query .heap)
@@ -49,7 +49,7 @@ unfolding inputIn
 few-records rules heap query h = h .valid .heap-formed .records-few
 
 -- The question about the whole heap: the reply names no part.
-pub whole-decided : (book snapshot question table space : List ℕ) {table′ space′ : List ℕ} {r : PartReply} → DecidedFor false book snapshot question table space r table′ space′
+pub whole-decided : (book snapshot question table space : List ℕ) {table′ space′ : List ℕ} {r : PartReply} → DecidedFor true book snapshot question table space r table′ space′
     → Decided book snapshot question table space (withoutPart r) table′ space′
 whole-decided b s q table space (Served.unread n e k) = Served.unread n e (record { is-reply = ap withoutPart (k .is-reply); same-table = k .same-table; same-space = k .same-space })
 whole-decided b s q table space (Served.unlent i e l k) = Served.unlent i e l (record { is-reply = ap withoutPart (k .is-reply); same-table = k .same-table; same-space = k .same-space })

@@ -2,8 +2,8 @@
 use mathlib.Core.{Bool.Bool, Bool.true, Bool.false, List.List, List.[], List._∷_, List._++_, Path._≡_}
 use Prim.Native.Nat.{ℕ, _-_}
 use lib.ListN.{length, getD}
-use Rattle.semantics.specs.{Reader.accepted, Formats.Input, Formats.ladder, Faults.bookL, Faults.four, Faults.asks}
-use Rattle.semantics.specs.Contract.{FitsInput, TrimmedInput, CompletedInput, house}
+use Rattle.semantics.specs.{Heap.wholeOf, Reader.accepted, Formats.Input, Formats.ladder, Faults.bookL, Faults.four, Faults.asks}
+use Rattle.semantics.specs.Contract.{FitsInput, TrimmedPart, CompletedInput, house}
 
 -- The bytes asked about, and the reply: fits or not, facts, rounds, lines. `last` has the table's last fact, where the paper gives it.
 pub record Row : Type 0 where
@@ -22,7 +22,7 @@ Verdict false fits = ¬ fits
 
 -- On fits there is a certificate of the engine's kind, and every one has that many lines; otherwise the figure is 0.
 abbrev pub LinesShown : Bool → ℕ → Input → Type 0
-LinesShown true lines i = ((words : List ℕ) × TrimmedInput i words) × ((words : List ℕ) (u : TrimmedInput i words) → u .taken .count ≡ lines)
+LinesShown true lines i = ((words : List ℕ) × TrimmedPart i (wholeOf (i .heap)) words) × ((words : List ℕ) (u : TrimmedPart i (wholeOf (i .heap)) words) → u .taken .count ≡ lines)
 LinesShown false lines i = lines ≡ 0
 
 abbrev pub LastShown : List ℕ → List ℕ → Type 0

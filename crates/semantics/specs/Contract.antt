@@ -20,23 +20,23 @@ HoldsInput i = Holds (i .ruleSet) (i .heap) (domainOf i)
 abbrev pub FitsInput : Input → Type 0
 FitsInput i = Fits (i .ruleSet) (i .heap) (i .predicate) (i .values)
 
--- The query fits a part of the heap: some finished tree for it has exactly the records of the part.
+-- The query fits a part of the heap: some finished tree for it has exactly the records of the part. A part is a number of 16 bits, as in
+-- a fact; and some part fits.
 abbrev pub FitsPart : Input → ℕ → Type 0
 FitsPart i = ByHand (i .ruleSet) (i .heap) (i .predicate) (i .values)
 
--- The words are a certificate of the query for a part, of any kind and of the engine's kind.
+abbrev pub SomeFits : Input → Type 0
+SomeFits i = (part : ℕ) × FitsPart i part
+
+-- The words are a certificate of the query for a part, of any kind and of the engine's kind; and for the whole heap.
 abbrev pub CertificatePart : Input → ℕ → List ℕ → Type 0
 CertificatePart i = Certificate (i .ruleSet) (i .heap) (domainOf i) (i .predicate) (i .values)
 
 abbrev pub TrimmedPart : Input → ℕ → List ℕ → Type 0
 TrimmedPart i = Trimmed (i .ruleSet) (i .heap) (domainOf i) (i .predicate) (i .values)
 
--- The same for the whole heap.
 abbrev pub CertificateInput : Input → List ℕ → Type 0
 CertificateInput i = CertificatePart i (wholeOf (i .heap))
-
-abbrev pub TrimmedInput : Input → List ℕ → Type 0
-TrimmedInput i = TrimmedPart i (wholeOf (i .heap))
 
 -- ---- refusals 10 and 11
 
@@ -86,42 +86,44 @@ pub record Refuses {R : Type 0} (refused : ℕ → R) (reply : R) (table space t
   pub same-table : table′ ≡ table
   pub same-space : space′ ≡ space
 
--- The engine's answer to what was read, with n lines of table: the reply, the table and the unfolding space. On fits the certificate is
--- the program's choice among those of the engine's kind; nothing else is.
-pub data Answers (i : Input) (n : ℕ) (reply : Reply) (table space : List ℕ) : Type 0 where
-  over : MoreFactsThan i n → reply ≡ refusalReply tooManyFacts → table ≡ zeros n → space ≡ zeros (3 * n) → Answers i n reply table space
-  fits : (rounds : ℕ) (facts words : List ℕ) → FilledInput i n rounds facts table → FitsInput i → (u : TrimmedInput i words)
+-- The engine's answer to what was read, with n lines of table: the reply, the table and the unfolding space. `Yes` is what the verdict
+-- decides, and `part` what the certificate shows on a yes; the certificate is the program's choice among those of the engine's kind, and
+-- nothing else is.
+pub data Answers (i : Input) (n : ℕ) (Yes : Type 0) (part : ℕ) (reply : Reply) (table space : List ℕ) : Type 0 where
+  over : MoreFactsThan i n → reply ≡ refusalReply tooManyFacts → table ≡ zeros n → space ≡ zeros (3 * n) → Answers i n Yes part reply table space
+  fits : (rounds : ℕ) (facts words : List ℕ) → FilledInput i n rounds facts table → Yes → (u : TrimmedPart i part words)
       → reply ≡ record { refusal = 0; verdict = 1; facts = length facts; rounds = rounds; lines = u .taken .count }
-      → space ≡ padded (3 * n) words → Answers i n reply table space
-  fits-not : (rounds : ℕ) (facts : List ℕ) → FilledInput i n rounds facts table → ¬ FitsInput i
+      → space ≡ padded (3 * n) words → Answers i n Yes part reply table space
+  fits-not : (rounds : ℕ) (facts : List ℕ) → FilledInput i n rounds facts table → ¬ Yes
       → reply ≡ record { refusal = 0; verdict = 0; facts = length facts; rounds = rounds; lines = 0 }
-      → space ≡ zeros (3 * n) → Answers i n reply table space
+      → space ≡ zeros (3 * n) → Answers i n Yes part reply table space
 
--- The contract of `decide`: from bytes and lent memory to the reply and that memory afterwards.
-abbrev pub Decided : (book snapshot question table space : List ℕ) (reply : Reply) (table′ space′ : List ℕ) → Type 0
-Decided book snapshot question table space reply table′ space′ =
+-- From bytes and lent memory to the reply and that memory afterwards.
+abbrev pub EngineCall : (Input → Type 0) → (Input → ℕ) → (book snapshot question table space : List ℕ) (reply : Reply) (table′ space′ : List ℕ) → Type 0
+EngineCall Yes part book snapshot question table space reply table′ space′ =
     Served (λ (r : Result Input). ladder book snapshot question ≡ r) (Lent (length table) (length space)) (Refuses refusalReply reply table space table′ space′)
-    (λ (i : Input). Answers i (length table) reply table′ space′)
+    (λ (i : Input). Answers i (length table) (Yes i) (part i) reply table′ space′)
+
+-- The contract of `decide`: a yes says that the query fits, and the certificate shows every record.
+abbrev pub Decided : (book snapshot question table space : List ℕ) (reply : Reply) (table′ space′ : List ℕ) → Type 0
+Decided = EngineCall FitsInput (λ (i : Input). wholeOf (i .heap))
 
 -- ---- the engine, asked about some part
 
+-- What a refused call replies here.
 abbrev pub refusalPartReply : ℕ → PartReply
 refusalPartReply n = record { refusal = n; verdict = 0; part = 0; facts = 0; rounds = 0; lines = 0 }
 
--- The reply without its part: the numbers that `decide` replies.
+-- The other numbers of such a reply, in the form of `decide`'s.
 abbrev pub withoutPart : PartReply → Reply
 withoutPart r = record { refusal = r .refusal; verdict = r .verdict; facts = r .facts; rounds = r .rounds; lines = r .lines }
 
--- The answer: a part that fits, with a certificate that ends in it, or that no part does. Part and certificate are the program's choice,
--- among all parts that fit and all certificates of the engine's kind; nothing else is.
-pub data Finds (i : Input) (n : ℕ) (reply : PartReply) (table space : List ℕ) : Type 0 where
-  over : MoreFactsThan i n → reply ≡ refusalPartReply tooManyFacts → table ≡ zeros n → space ≡ zeros (3 * n) → Finds i n reply table space
-  some : (part rounds : ℕ) (facts words : List ℕ) → FilledInput i n rounds facts table → FitsPart i part → (u : TrimmedPart i part words)
-      → reply ≡ record { refusal = 0; verdict = 1; part = part; facts = length facts; rounds = rounds; lines = u .taken .count }
-      → space ≡ padded (3 * n) words → Finds i n reply table space
-  none : (rounds : ℕ) (facts : List ℕ) → FilledInput i n rounds facts table → ((part : ℕ) → ¬ FitsPart i part)
-      → reply ≡ record { refusal = 0; verdict = 0; part = 0; facts = length facts; rounds = rounds; lines = 0 }
-      → space ≡ zeros (3 * n) → Finds i n reply table space
+-- The engine's answer, where a yes says that some part fits: the certificate shows the part of the reply, which is one that fits, of the
+-- program's choice. Without a yes the part is 0.
+pub record Finds (i : Input) (n : ℕ) (reply : PartReply) (table space : List ℕ) : Type 0 where
+  pub answers : Answers i n (SomeFits i) (reply .part) (withoutPart reply) table space
+  pub fits : reply .verdict ≡ 1 → FitsPart i (reply .part)
+  pub none : reply .verdict ≡ 0 → reply .part ≡ 0
 
 -- The contract of `find`.
 abbrev pub Found : (book snapshot question table space : List ℕ) (reply : PartReply) (table′ space′ : List ℕ) → Type 0

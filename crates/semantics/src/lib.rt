@@ -14,7 +14,7 @@ pub struct Reply {
     pub lines: u64,
 }
 
-// The reply to the question whether some part fits: the part's records as bits, 0 on does not fit.
+// The reply to the question whether some part fits. Bit i of the part is for record i; on does not fit and on a refusal the part is 0.
 pub struct PartReply {
     pub refusal: u64,
     pub verdict: u64,

@@ -3,7 +3,6 @@ use native.Mathlib.Omega.{arith}
 use Rattle.semantics.specs.Lists.{zeros}
 use mathlib.Core.Path.{refl}
 use Prim.Native.Nat.{_≤_}
-use Rattle.semantics.proofs.EngineCall.{decided-call}
 use Rattle.engine.proofs.Demands.{refusal-most, verdict-most}
 use borrow.Author.Needs.{needs}
 use Rattle.desk.proofs.desk_decide.Statement.{statement}
@@ -15,12 +14,12 @@ start c = c .before .before .before .before .before .before .before .before .bef
 refusal : (c : tie.After-struct-known) → c .before .before .before .decide .result .refusal ≤ 11
 refusal c =
     let a = start c .args in
-    refusal-most (a .book .now) (a .snapshot .now) (a .question .now) (zeros 1024) (zeros 3072) (decided-call (a .book .now) (a .snapshot .now) (a .question .now) (zeros 1024) (zeros 3072) (c .before .before .before .decide .ensures))
+    refusal-most (a .book .now) (a .snapshot .now) (a .question .now) (zeros 1024) (zeros 3072) (c .before .before .before .decide .ensures)
 
 second : (c : tie.After-struct-known) → c .before .before .before .decide .result .verdict ≤ 1
 second c =
     let a = start c .args in
-    verdict-most (a .book .now) (a .snapshot .now) (a .question .now) (zeros 1024) (zeros 3072) (decided-call (a .book .now) (a .snapshot .now) (a .question .now) (zeros 1024) (zeros 3072) (c .before .before .before .decide .ensures))
+    verdict-most (a .book .now) (a .snapshot .now) (a .question .now) (zeros 1024) (zeros 3072) (c .before .before .before .decide .ensures)
 
 mul-result : tie.Need-mul-result
 mul-result c = omega (arith, refusal c)

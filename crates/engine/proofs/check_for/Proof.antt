@@ -28,7 +28,7 @@ returns : tie.Need-returns
 returns c =
     let t = c .before in
     let a = read-whole (t .before) in
-    answered (a .before .before .read .ensures) (a .enum-told .given .1) tt (Checks.takes (chosen-taken (start a .args .all) (start a .args .part) _ _ _ _ (t .before .before .before .before .chosen .ensures) .0 (t .takes .ensures .so (c .if1 .taken))) refl)
+    answered (a .before .before .read .ensures) (a .enum-told .given .1) tt (Checks.takes (chosen-taken (start a .args .whole) (start a .args .part) _ _ _ _ (t .before .before .before .before .chosen .ensures) .0 (t .takes .ensures .so (c .if1 .taken))) refl)
 
 returns-2 : tie.Need-returns-2
 returns-2 c = unread (c .before .before .before .read .ensures) (c .before .n .given .1) refl
@@ -37,7 +37,7 @@ returns-3 : tie.Need-returns-3
 returns-3 c =
     let t = c .before in
     let a = read-whole (t .before) in
-    answered (a .before .before .read .ensures) (a .enum-told .given .1) tt (Checks.takes-not (λ k. t .takes .ensures .not-so (c .if1 .left) (chosen-taken (start a .args .all) (start a .args .part) _ _ _ _ (t .before .before .before .before .chosen .ensures) .1 k)) refl)
+    answered (a .before .before .read .ensures) (a .enum-told .given .1) tt (Checks.takes-not (λ k. t .takes .ensures .not-so (c .if1 .left) (chosen-taken (start a .args .whole) (start a .args .part) _ _ _ _ (t .before .before .before .before .chosen .ensures) .1 k)) refl)
 
 pub check-for-spec : {M : Type 1} → statement M
 check-for-spec =
