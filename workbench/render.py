@@ -13,15 +13,15 @@ from workbench.wording import count
 MOST_INDENTED = 30
 HINTS_AHEAD = "Hints on where to look. They come from the pool and the question's values alone; the verdict is the engine's."
 NO_HINTS = (
-    "No hints: every field and every value of the question is nil or names a record, no record is held in two places, and the",
-    "question's values lead to every record.",
+    "No hints: every field and every value of the question is nil or names a record, the question's values lead to every record, and",
+    "no record is held in two places, apart from records that point to one another.",
 )
 PART_HINTS_AHEAD = (
     "Hints on where to look. They come from the question's values and the records to which these lead; the verdict is the engine's."
 )
 NO_PART_HINTS = (
-    "No hints: every value of the question and every field of the records to which these lead is nil or names a record, and none of",
-    "these records is held in two places.",
+    "No hints: every value of the question and every field of the records to which these lead is nil or names a record, and these",
+    "fields hold no record in two places, apart from records that point to one another.",
 )
 NO_FIND = "the question holds without any record, which says nothing about the pool; a shape that needs a record tells more"
 ORDINALS = ("first", "second", "third", "fourth")

@@ -89,6 +89,13 @@ class DoesNotFit(unittest.TestCase):
         self.assertTrue(answer.startswith("does not fit\nNo hints: "))
         self.assertEqual(len(answer.splitlines()), 3)
 
+    def test_no_hints_about_a_doubly_linked_list(self):
+        """Its middle is held twice, which is no hint, and not to be denied either."""
+        pool = Pool((Record(10, (20, 0)), Record(20, (30, 10)), Record(30, (0, 20))))
+        for some_part in (False, True):
+            answer = answer_text(ask(asked(L, pool, FROM_TEN_TO_TWENTY, some_part)))
+            self.assertRegex(answer, r"\nNo hints: .*\n.* in two places, apart from records that point to one another\.\n$")
+
 
 class OfAPart(unittest.TestCase):
     def text(self, book: Book, pool: Pool, question: Question) -> str:
@@ -141,6 +148,11 @@ class OfAPart(unittest.TestCase):
         answer = self.text(H, pool, Question(2, (10, 0)))
         self.assertTrue(answer.startswith("no part fits, not even the empty one\nNo hints: every value of the question and every field of "))
         self.assertEqual(len(answer.splitlines()), 3)
+
+    def test_no_hints_and_a_record_held_from_outside_too(self):
+        """Of the fields to which the question does not lead, nothing is said."""
+        answer = self.text(H, Pool((Record(10, (20,)), Record(20, (0,)), Record(30, (20,)))), Question(1, (10,)))
+        self.assertIn(" and these\nfields hold no record in two places, ", answer)
 
 
 class Next(unittest.TestCase):
