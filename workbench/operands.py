@@ -37,7 +37,10 @@ def parser(verb: str, usage: str, what: str, example: str) -> argparse.ArgumentP
 
 def parsed(made: argparse.ArgumentParser, arguments: list[str], fewest: int, most: int | None) -> argparse.Namespace:
     """The arguments; argparse ends the program with status 2 and the usage where there are too few or too many."""
-    options = made.parse_intermixed_args(arguments)
+    # What stands after -- is taken away first, since argparse, which reads intermixed arguments twice, may forget that.
+    end = arguments.index("--") if "--" in arguments else len(arguments)
+    options = made.parse_intermixed_args(arguments[:end])
+    options.operands += arguments[end + 1 :]
     count = len(options.operands)
     if count < fewest or (most is not None and count > most):
         due = f"{fewest}" if most == fewest else f"at least {fewest}"

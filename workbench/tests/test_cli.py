@@ -484,3 +484,14 @@ class Inside(unittest.TestCase):
     def test_questions_that_look_like_options(self):
         self.assertEqual(self.run_verb("ask", "house", "examples/ring.pool", "-ring(1)")[0], 2)
         self.assertEqual(self.run_verb("ask", "--", "house", "examples/ring.pool", "ring(0x10)")[0], 0)
+
+    def test_files_that_look_like_options(self):
+        """After --, wherever that stands."""
+        for name in ("-p", "--part", "--", "-1"):
+            (self.folder / name).write_text("10: 10\n")
+            os.chdir(self.folder)
+            for arguments in (["--", "house", name, "ring(10)"], ["house", "--", name, "ring(10)"], ["--json", "--", "house", name, "ring(10)"]):
+                with self.subTest(arguments=arguments):
+                    status, out, said = self.run_verb("ask", *arguments)
+                    self.assertEqual((status, b"fits" in out, b"a part" in out, said), (0, True, False, ""))
+            os.chdir(ROOT)
