@@ -5,7 +5,7 @@ from argparse import ArgumentParser
 from collections.abc import Callable
 
 from workbench import report_json
-from workbench.asking import DOES_NOT_FIT, FITS, Answer, Asked, ask, ask_next
+from workbench.asking import DOES_NOT_FIT, FITS, REFUSED, Answer, Asked, ask, ask_next
 from workbench.mistake import Mistake, Unusable, printable
 from workbench.operands import one_standard_input, parsed, parser, read_noted_book, read_question
 from workbench.output import complain, say, write_file
@@ -64,8 +64,12 @@ def _ask_one(operands: list[str], answer_about: Callable[[str], Answer], save: s
     answer = answer_about(operands[1])
     saved = _save(answer, save)
     say(answer_text(answer))
-    # After the answer, which need not wait for it.
-    found = ask_next(answer)
+    # After the answer, which need not wait for it, and holds even if nobody waits for this.
+    try:
+        found = ask_next(answer)
+    except KeyboardInterrupt:
+        complain("stopped while asking about some part: the answer above holds")
+        return FAULT
     if found:
         say(next_text(found, _part_command(operands)))
     return max(saved, status_of([answer.kind]))
@@ -119,7 +123,8 @@ def _save(answer: Answer, save: str | None) -> int:
     if save is None:
         return YES
     if answer.kind != FITS:
-        complain(f"nothing is written to {save}: only a {'part' if answer.asked.some_part else 'pool'} that fits has an unfolding")
+        without = "no part fits" if answer.asked.some_part else "the pool does not fit"
+        complain(f"nothing is written to {save}: {'the engine refuses this' if answer.kind == REFUSED else without}")
         return YES
     try:
         write_file(save, words_to_bytes(answer.reply.words))

@@ -291,18 +291,26 @@ class Inside(unittest.TestCase):
     def test_the_answer_does_not_wait_for_the_part(self):
         with mock.patch.object(ask_verb, "ask_next", side_effect=KeyboardInterrupt):
             status, out, said = self.run_verb("ask", "house", "examples/circle.pool", "segment(10, 20)")
-        self.assertEqual((status, out.splitlines()[0], said), (2, b"does not fit", "shapes: stopped\n"))
+        self.assertEqual((status, out.splitlines()[0]), (2, b"does not fit"))
+        self.assertEqual(said, "shapes: stopped while asking about some part: the answer above holds\n")
 
     def test_rows_ask_about_no_part_by_themselves(self):
         with mock.patch.object(library, "decide", side_effect=library.decide) as decided:
             self.run_verb("ask", "house", "examples/circle.pool", "examples/foreign.pool", "segment(10, 20)")
         self.assertEqual([call.args[-1] for call in decided.mock_calls], [False, False])
 
-    def test_nothing_to_save_of_no_part(self):
-        path = self.folder / "unfolding"
-        status, _, said = self.run_verb("ask", "--part", "house", "examples/ring.pool", "segment(0x10, nil)", "--save", str(path))
-        self.assertEqual((status, said), (1, f"shapes: nothing is written to {path}: only a part that fits has an unfolding\n"))
-        self.assertFalse(path.exists())
+    def test_nothing_to_save(self):
+        path, cut = self.folder / "unfolding", self.folder / "cut"
+        cut.write_bytes(bytes.fromhex("01 02 02 00"))
+        for book, part, status, reason in (
+            ("house", [], 1, "the pool does not fit"),
+            ("house", ["--part"], 1, "no part fits"),
+            (str(cut), ["--part"], 2, "the engine refuses this"),
+        ):
+            with self.subTest(reason=reason):
+                got, _, said = self.run_verb("ask", *part, book, "examples/ring.pool", "segment(0x10, nil)", "--save", str(path))
+                self.assertEqual((got, said), (status, f"shapes: nothing is written to {path}: {reason}\n"))
+                self.assertFalse(path.exists())
 
     def test_refused_bytes(self):
         book = self.folder / "cut"
