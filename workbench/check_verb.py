@@ -1,5 +1,7 @@
 """The verb `check`: an unfolding from a file, and where it is not taken what a reader stumbles on."""
 
+from argparse import ArgumentTypeError
+
 from workbench import library
 from workbench.asking import Asked, detail
 from workbench.mistake import Mistake
@@ -25,7 +27,7 @@ def check_verb(arguments: list[str]) -> int:
         "UNFOLDING is a file that `ask --save` wrote, or one from anywhere else.",
         "./shapes check house p.pool 'segment(10, nil)' p.unfolding",
     )
-    made.add_argument("--part", metavar="RECORDS", help="for this part, such as 10,20 or emp, instead of all records")
+    made.add_argument("--part", metavar="RECORDS", type=_records, help="for this part, such as 10,20 or emp, instead of all records")
     options = parsed(made, arguments, 4, 4)
     book_file, pool_file, question_text, words_file = options.operands
     one_standard_input((book_file, pool_file, words_file))
@@ -39,6 +41,13 @@ def check_verb(arguments: list[str]) -> int:
         return FAULT
     say("taken\n" if taken else "not taken\n" + (doubt or _doubt(words, asked, part)))
     return YES if taken else NO
+
+
+def _records(text: str) -> str:
+    """An answer shows a part with spaces in it. Copied as it is, it makes several arguments, of which the first ends in a comma."""
+    if text.rstrip().endswith(","):
+        raise ArgumentTypeError("nothing follows the last comma: write addresses without spaces, such as 10,20")
+    return text
 
 
 def _part(text: str | None, pool: Pool | None) -> int | None:

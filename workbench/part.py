@@ -49,7 +49,8 @@ def parse_part(text: str, pool: Pool, source: str = "part") -> int:
 def _address(tokens: Tokens, pool: Pool, before: list[int]) -> int:
     token = tokens.next()
     if token.kind != "number":
-        raise tokens.mistake(f"an address is missing before {shown(token)}: write addresses such as 10,20, or emp alone", token)
+        wrong = f"{shown(token)} is no address" if token.kind == "name" else f"an address is missing before {shown(token)}"
+        raise tokens.mistake(f"{wrong}: write addresses such as 10,20, or emp alone", token)
     address = read_value(tokens, token)
     if address not in {record.address for record in pool.records}:
         raise tokens.mistake(f"the pool has no record at {shown(token)}: {_known(pool)}", token)

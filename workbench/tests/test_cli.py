@@ -373,6 +373,8 @@ class Inside(unittest.TestCase):
             with self.subTest(part=part):
                 status = 0 if due == "taken\n" else 1
                 self.assertEqual(self.run_verb("check", *asked, str(saved), *part), (status, due.encode(), ""))
+        status, _, said = self.run_verb("check", *asked, str(saved), "--part", "0x10,", "0x20,", "0x30")
+        self.assertEqual((status, "write addresses without spaces, such as 10,20\n" in said), (2, True))
         status, out, said = self.run_verb("check", *asked, str(saved), "--part", "0x10,0x50")
         self.assertEqual((status, out), (2, b""))
         self.assertTrue(said.startswith("part:1:6: the pool has no record at 0x50: its records are 0x10, 0x20, 0x30, 0x40, 0x48, 0x60\n"))
