@@ -24,6 +24,7 @@ NO_PART_HINTS = (
     "fields hold no record in two places, apart from records that point to one another.",
 )
 NO_FIND = "the question holds without any record, which says nothing about the pool; a shape that needs a record tells more"
+LARGER = "larger parts may fit as well; whether all records do is asked without --part"
 ORDINALS = ("first", "second", "third", "fourth")
 
 
@@ -54,13 +55,13 @@ def next_text(found: Answer, command: str) -> str:
 
 
 def _part_rows(answer: Answer, *more: list[str]) -> list[str]:
-    """Which records are in the part and which are not. The empty part is no find, and nobody should take it for one."""
+    """Which records are in the part and which are not. The empty part is no find, and nobody should take it for one, nor stop there."""
     if answer.part is None:
         return []
     names = Names(answer.asked)
     records, left_out = names.values(answer.part.records), names.values(answer.part.left_out)
     rows = aligned([["  in it", records or "nothing"], ["  left out", left_out or "nothing"], *more])
-    return rows + [f"  {NO_FIND}"] * (left_out != "" and not records)
+    return rows + ([f"  {NO_FIND}", f"  {LARGER}"] if left_out and not records else [])
 
 
 def refusal_text(refusal: int, detail: str = "") -> str:

@@ -124,6 +124,7 @@ class OfAPart(unittest.TestCase):
             "  in it      nothing\n"
             "  left out   10, 20\n"
             "  the question holds without any record, which says nothing about the pool; a shape that needs a record tells more\n"
+            "  larger parts may fit as well; whether all records do is asked without --part\n"
             "segment(5, 5)   rule 1 (line 3)   takes nothing\n",
         )
 
