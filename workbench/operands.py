@@ -40,6 +40,9 @@ def parsed(made: argparse.ArgumentParser, arguments: list[str], fewest: int, mos
     # What stands after -- is taken away first, since argparse, which reads intermixed arguments twice, may forget that.
     end = arguments.index("--") if "--" in arguments else len(arguments)
     options = made.parse_intermixed_args(arguments[:end])
+    # Of -- in --save=-- it makes no value but an empty list.
+    if any(value == [] for name, value in vars(options).items() if name != "operands"):
+        made.error("-- is no value of an option: name a file ./-- if it is called so")
     options.operands += arguments[end + 1 :]
     count = len(options.operands)
     if count < fewest or (most is not None and count > most):

@@ -495,12 +495,20 @@ class Inside(unittest.TestCase):
         self.assertEqual(self.run_verb("ask", "house", "examples/ring.pool", "-ring(1)")[0], 2)
         self.assertEqual(self.run_verb("ask", "--", "house", "examples/ring.pool", "ring(0x10)")[0], 0)
 
+    def test_two_dashes_are_no_value(self):
+        asked = ("house", "examples/ring.pool", "ring(0x10)")
+        for verb in (["ask", *asked, "--save=--"], ["check", *asked, "examples/ring.pool", "--part=--"], ["draw", *asked, "-o--"]):
+            with self.subTest(verb=verb):
+                status, out, said = self.run_verb(*verb)
+                self.assertEqual((status, out, said.count("-- is no value of an option")), (2, b"", 1))
+
     def test_files_that_look_like_options(self):
         """After --, wherever that stands."""
         for name in ("-p", "--part", "--", "-1"):
             (self.folder / name).write_text("10: 10\n")
             os.chdir(self.folder)
-            for arguments in (["--", "house", name, "ring(10)"], ["house", "--", name, "ring(10)"], ["--json", "--", "house", name, "ring(10)"]):
+            asked = [name, "ring(10)"]
+            for arguments in (["--", "house", *asked], ["house", "--", *asked], ["--json", "--", "house", *asked]):
                 with self.subTest(arguments=arguments):
                     status, out, said = self.run_verb("ask", *arguments)
                     self.assertEqual((status, b"fits" in out, b"a part" in out, said), (0, True, False, ""))
