@@ -28,7 +28,7 @@
 
 /* The engine: whether the whole heap of the snapshot fits the question (verdict 1) or does not (0).
  * Refusals 1 to 10 leave table and space as they were; 11 leaves both all 0. Otherwise the table has all facts, as many as `facts` says, in
- * the order of the `rounds` rounds that gave one, and then 0. On fits the space has an unfolding of `lines` lines, three words each, and
+ * the order of the `rounds` rounds that gave one, and then 0 (a fact may be 0 too). On fits the space has an unfolding of `lines` lines, three words each, and
  * then 0; on does not fit it is all 0. */
 uint64_t shapes_decide(const uint8_t *book, size_t book_len, const uint8_t *snapshot, size_t snapshot_len,
                        const uint8_t *question, size_t question_len,

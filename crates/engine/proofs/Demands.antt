@@ -211,10 +211,10 @@ module _ (book snapshot question table space : List ℕ) {r : PartReply} {t x : 
         (λ n. omega (arith, n, verdict-most book snapshot question table space decided)) in
         let like = Theorems.found-like-decided book snapshot question table space decided found in (
           same-reply (like .refusals) (no ∙ sym v) (like .facts) (like .rounds)
-          (no-lines book snapshot question table space decided no ∙ sym (no-lines book snapshot question table space call-of v)),
+              (no-lines book snapshot question table space decided no ∙ sym (no-lines book snapshot question table space call-of v)),
           like .tables,
           served-both (one-ladder book snapshot question) decided call-of (λ n k l. k .same-space ∙ sym (l .same-space))
-          (λ i k l. empty-answered k no .1 ∙ sym (empty-answered l v .1)),
+              (λ i k l. empty-answered k no .1 ∙ sym (empty-answered l v .1)),
         )
 
 -- ---- the check
