@@ -161,16 +161,6 @@ fn what_makes_a_tree_finished() {
         &snapshot(&[(10, &[20]), (20, &[10])]),
         &question(0, &[10, 10]),
     );
-    let leaf = |x, y| tree::Tree {
-        rule: 0,
-        values: vec![x, y],
-        under: vec![],
-    };
-    let node = |x, y, z, below| tree::Tree {
-        rule: 1,
-        values: vec![x, y, z],
-        under: vec![below],
-    };
     let good = node(10, 10, 20, node(20, 10, 10, leaf(10, 10)));
     assert!(tree::answers(&problem, &good));
     let wrong = [

@@ -191,7 +191,7 @@ module _ (book snapshot question table space : List ℕ) {r : PartReply} {t x : 
         let q : j ≡ i = same-input (one-ladder book snapshot question) e is-read in
         fits-certified book snapshot question table space call-of i is-read lent (rw q at room) v
 
-  -- Given the part of a yes, the check takes the certificate returned with it.
+  -- The check for the part that is returned takes the certificate that comes with it.
   pub find-taken : r .verdict ≡ 1 → {s : CheckReply} → CheckedPart book snapshot question (r .part) (take (3 * r .lines) x) s → s ≡ record { refusal = 0; taken = 1 }
   find-taken v checked =
       Theorems.checked-same book snapshot question (λ (i : Input). r .part) (take (3 * r .lines) x) checked (Theorems.found-checks book snapshot question table space found v)

@@ -141,7 +141,7 @@ module _ (book snapshot question : List ℕ) where
       call-lengths (Served.unlent i e l k) = record { tables = ap length (k .same-table); spaces = ap length (k .same-space) }
       call-lengths (Served.answered i e l w) = let (a, b) = lengths i (length table) w in record { tables = a; spaces = b ∙ sym (l .three) }
 
-      -- Given the part of a yes, the check takes what is written: the words of the first `lines` lines of the unfolding space.
+      -- What is written is taken by the check for its part: the words of the first `lines` lines of the unfolding space.
       pub call-checks : EngineCall Yes part book snapshot question table space r t x → r .verdict ≡ 1
           → CheckedFor book snapshot question part (take (3 * r .lines) x) (record { refusal = 0; taken = 1 })
       call-checks (Served.unread n e k) z = absurd (omega (arith, ap (λ (r : Reply). r .verdict) (k .is-reply)))

@@ -3,6 +3,7 @@
 
 use reference::api::HOUSE;
 use reference::formats::{self, Problem};
+use reference::tree::Tree;
 use std::collections::BTreeSet;
 
 pub fn book_h() -> Vec<u8> {
@@ -14,6 +15,24 @@ pub fn book_l() -> Vec<u8> {
     let mut book = vec![0x01, 0x02, 0x02];
     book.extend(&HOUSE[5..24]);
     book
+}
+
+/// The empty segment from x to y, by hand.
+pub fn leaf(x: u64, y: u64) -> Tree {
+    Tree {
+        rule: 0,
+        values: vec![x, y],
+        under: vec![],
+    }
+}
+
+/// The segment from x to y whose first record holds z.
+pub fn node(x: u64, y: u64, z: u64, below: Tree) -> Tree {
+    Tree {
+        rule: 1,
+        values: vec![x, y, z],
+        under: vec![below],
+    }
 }
 
 pub fn book_s() -> Vec<u8> {
