@@ -87,11 +87,12 @@ def _part_command(operands: list[str]) -> str:
 def _ask_many(pool_files: list[str], answer_about: Callable[[str], Answer], some_part: bool) -> int:
     """One row for each pool, as soon as it is there. A row has no room for hints, so nothing is asked for their sake."""
     names = [printable(source_name(file)) for file in pool_files]
-    kinds = []
+    kinds, empty = [], 0
     for file, name in zip(pool_files, names):
         try:
             answer = answer_about(file)
             kind, words = answer.kind, short_text(answer)
+            empty += answer.part is not None and not answer.part.records
         except Unusable:
             raise
         except Mistake as mistake:
@@ -99,7 +100,7 @@ def _ask_many(pool_files: list[str], answer_about: Callable[[str], Answer], some
             complain(mistake)
         kinds.append(kind)
         say(f"{name.ljust(max(map(len, names)))}   {words}\n")
-    say(sum_text(kinds, some_part) + "\n")
+    say(sum_text(kinds, some_part, empty) + "\n")
     return status_of(kinds)
 
 

@@ -79,12 +79,13 @@ def short_text(answer: Answer) -> str:
     return f"{verdict(answer)}, {many}: {names.values(answer.part.records)}"
 
 
-def sum_text(kinds: list[str], some_part: bool = False) -> str:
-    """What came of all pools, by kind; kinds of which there is none are left out, except that of a pool that fits."""
+def sum_text(kinds: list[str], some_part: bool = False, empty: int = 0) -> str:
+    """What came of all pools, by kind; kinds of which there is none are left out, except that of a pool that fits. Of so many the part is
+    the empty one, which is no find."""
     fit, not_fit, refused = kinds.count(FITS), kinds.count(DOES_NOT_FIT), kinds.count(REFUSED)
     not_read = len(kinds) - fit - not_fit - refused
     if some_part:
-        said = [f"{fit} with a part that fits"] + [f"{not_fit} without"] * bool(not_fit)
+        said = [f"{fit} with a part that fits" + f" ({empty} of them with the empty one)" * bool(empty)] + [f"{not_fit} without"] * bool(not_fit)
     else:
         said = [f"{fit} fits" if fit == 1 else f"{fit} fit"]
         said += [f"{not_fit} does not" if not_fit == 1 else f"{not_fit} do not"] * bool(not_fit)

@@ -241,6 +241,8 @@ class Rows(unittest.TestCase):
         self.assertEqual(sum_text([FITS, DOES_NOT_FIT, DOES_NOT_FIT], True), "3 pools: 1 with a part that fits, 2 without")
         self.assertEqual(sum_text([FITS, REFUSED, "not read"], True), "3 pools: 1 with a part that fits, 1 refused, 1 not read")
         self.assertEqual(sum_text([DOES_NOT_FIT], True), "1 pool: 0 with a part that fits, 1 without")
+        some = sum_text([FITS, FITS, DOES_NOT_FIT], True, 1)
+        self.assertEqual(some, "3 pools: 2 with a part that fits (1 of them with the empty one), 1 without")
 
     def test_sums(self):
         self.assertEqual(sum_text([FITS, FITS, DOES_NOT_FIT]), "3 pools: 2 fit, 1 does not")
