@@ -11,7 +11,7 @@ use Rattle.semantics.specs.{Lists._among_, Lists.Distinct, Lists.digits,
 use Rattle.semantics.specs.{Tree.ByHand, Domain.domain, Fact.position, Fact.fact}
 use Rattle.semantics.specs.Rounds.{Ground, Complete, After, Holds, AllHold}
 use Rattle.semantics.specs.Certificate.{factAt, LineHolds, Trimmed}
-use Rattle.semantics.proofs.{Bits.decIn, Bits.in-rest, DomainFacts.query-good}
+use Rattle.semantics.proofs.{Bits.decIn, Bits.in-rest, Coding.spot, DomainFacts.query-good}
 use Rattle.semantics.proofs.FixedPoint.{same-ground, holds-closed, table-holds, holding-counted}
 use Rattle.semantics.proofs.{Verdict.completeness, LineCount.leave, LineCount.leave-in, LineCount.leave-out}
 
@@ -136,11 +136,6 @@ module _ (ruleSet : RuleSet) (heap : Heap) (values : List ℕ) where
   line-fact (f ∷ fs) (Distinct.next n d) k low high =
       by-cases (ℕ-discrete k (suc (length fs))) (λ e. (f, List·Memᴰ·head refl, line-head f fs ∙ sym e))
       (λ q. let (g, m, e) = line-fact fs d k low (omega arith) in (g, List·Memᴰ·tail m, line-tail f g fs (λ p. n (Memᴰ·cast (sym p) m)) ∙ e))
-
-  -- the number of a rule
-  spot : {A : Type 0} (z : A) {a : A} {xs : List A} → a among xs → (i : ℕ) × (i < length xs) × (getD xs i z ≡ a)
-  spot z (List·Memᴰ·head e) = (0, omega arith, sym e)
-  spot z (List·Memᴰ·tail m) = let (i, h, e) = spot z m in (suc i, omega arith, e)
 
   -- the three words of a fact
   wordsFor : (f : ℕ) (fs called : List ℕ) → Ground ruleSet heap values called f → List ℕ

@@ -29,3 +29,9 @@ pub struct CheckReply {
     pub refusal: u64,
     pub taken: u64,
 }
+
+// The reply of the quick walk. Verdict 1 is fits; in a book that is not plain, 0 says nothing.
+pub struct WalkReply {
+    pub refusal: u64,
+    pub verdict: u64,
+}
