@@ -2,9 +2,9 @@
 use mathlib.Core.{Path._≡_, Path.refl, List.List, List.[], List._∷_, List.List·Memᴰ·head, List.List·Memᴰ·tail}
 use Prim.Native.Nat.{ℕ, _+_, _<_}
 use native.Mathlib.Omega.{arith}
-use lib.Bits.{bitAnd, and-zero-l, and-zero-r, or-lt, or-disjoint}
+use lib.Bits.{bitAnd, and-zero-l, and-zero-r}
 use Rattle.semantics.specs.{Heap.Joins, Lists._among_}
-use Rattle.words.proofs.Disjoint.{apart-split, apart-join}
+use Rattle.words.proofs.Disjoint.{apart-split, apart-join, sum-small}
 
 -- The subheaps, joined one by one to those used, make up the whole.
 pub data Onto : List ℕ → ℕ → ℕ → Type 0 where
@@ -38,9 +38,6 @@ pub joins-onto : (parts : List ℕ) (whole : ℕ) → Joins parts whole → Onto
 joins-onto parts whole j = joins-rest j 0 whole (and-zero-l whole) (omega arith)
 
 -- ---- sizes
-
-pub sum-small : (a b : ℕ) → a < 65536 → b < 65536 → bitAnd a b ≡ 0 → a + b < 65536
-sum-small a b ha hb e = omega (arith, or-lt 16 a b ha hb, or-disjoint a b e)
 
 pub joins-small : {parts : List ℕ} {whole : ℕ} → Joins parts whole → ((p : ℕ) → p among parts → p < 65536) → whole < 65536
 joins-small Joins.none h = omega arith

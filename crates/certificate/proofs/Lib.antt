@@ -1,8 +1,6 @@
-pub mod Answers
 pub mod Reading
 pub mod Positions
 pub mod Joining
-pub mod Values
 pub mod Joined
 pub mod Lines
 pub mod Passing

@@ -8,7 +8,7 @@ use Rattle.words.specs.{Entries.tabulate, Subheap.Told}
 use Rattle.block.specs.Layout.{atomIn, callIn, ruleIn, atomCount, callCount, atomPlace, callPlace, headIn, headArity, recordCount}
 use Rattle.words.proofs.Tabulate.{tabulate-length, tabulate-at}
 use Rattle.certificate.specs.Line.{givenBy, FirstRecord, FoundRecord, CallsLine, CallsJoin, AtomsJoin}
-use Rattle.certificate.proofs.Answers.{told-equal}
+use Rattle.words.proofs.Answers.{told-equal}
 
 -- ---- lists given by their entries, from an entry on
 

@@ -8,8 +8,8 @@ use Rattle.semantics.specs.Domain.{mostValues}
 use Rattle.semantics.proofs.DomainFacts.{heap-length, heap-values}
 use Rattle.words.specs.Entries.{entries}
 use Rattle.block.specs.Layout.{ruleCount, ruleSetIn, recordCount, recordPlace, recordSize, recordField, recordIn, heapIn}
-use Rattle.block.proofs.RuleInBlock.{rules-are}
-use Rattle.words.proofs.Tabulate.{entries-length, tabulate-length, tabulate-at, tabulate-in}
+use Rattle.block.proofs.{HeapInBlock.heap-count, RuleInBlock.rules-are}
+use Rattle.words.proofs.Tabulate.{entries-length, tabulate-at}
 use Rattle.domain.specs.Insertion.{Room, Inserted}
 use Rattle.domain.proofs.Insertion.{inserted-none, inserted-also, inserted-room}
 
@@ -28,23 +28,8 @@ field-at heap k j h = tabulate-at (recordSize heap k) (recordField heap k) 0 j h
 
 -- ---- counts
 
-pub heap-count : (heap : List ℕ) → length (heapIn heap) ≡ recordCount heap
-unfolding heapIn
-heap-count heap = tabulate-length (recordCount heap) (recordOf heap)
-
 pub rules-few : (block : List ℕ) → WellFormed (ruleSetIn block) → ruleCount block ≤ 16
 rules-few block formed = omega (arith, formed .rules-few, rules-are block)
-
-module _ (heap : List ℕ) (formed : WellFormedHeap (heapIn heap)) where
-  pub records-few : recordCount heap ≤ 16
-  records-few = omega (arith, formed .records-few, heap-count heap)
-
-  pub record-in : (k : ℕ) → k < recordCount heap → recordOf heap k among heapIn heap
-  unfolding heapIn
-  record-in k h = tabulate-in (recordCount heap) (recordOf heap) k h
-
-  pub fields-few : (k : ℕ) → k < recordCount heap → recordSize heap k ≤ 4
-  fields-few k h = omega (arith, formed .fields-few (recordOf heap k) (record-in k h), fields-length heap k)
 
 -- a value of a record is one of the heap's
 pub value-in : {v : ℕ} (heap : List ℕ) (k : ℕ) → k < recordCount heap → v among recordValues (recordOf heap k) → v among heapValues (heapIn heap)

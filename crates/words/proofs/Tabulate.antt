@@ -2,9 +2,9 @@
 use mathlib.Core.Path.{_≡_, refl, ap, ap₂, _∙_}
 use mathlib.Core.List.{List, [], _∷_, _++_, map, List·Memᴰ·head, List·Memᴰ·tail, List·Memᴰ·cases-cons, List·Memᴰ·not-nil}
 use mathlib.Core.Logic.{⊎-elim}
-use Prim.Native.Nat.{ℕ, zero, suc, _+_, _<_}
+use Prim.Native.Nat.{ℕ, zero, suc, _+_, _≤_, _<_}
 use native.Mathlib.Omega.{arith}
-use lib.ListN.{length, getD}
+use lib.{ListN.length, ListN.getD, ListN.drop, ListN.drop-of-length-le, Seq.drop-cons}
 use Rattle.semantics.specs.Lists.{_among_}
 use Rattle.words.specs.Entries.{tabulate, entries}
 
@@ -54,6 +54,16 @@ pub tabulate-getD : {A : Type 0} (xs : List A) (d : A) → tabulate (length xs) 
 unfolding tabulate
 tabulate-getD [] d = refl
 tabulate-getD {A} (x ∷ xs) d = ap (λ (l : List A). x ∷ l) (tabulate-getD xs d)
+
+-- what is left from an entry on, and past the last
+pub tabulate-drop : {A : Type 0} (n : ℕ) (f : ℕ → A) (k : ℕ) → k < n → drop k (tabulate n f) ≡ f k ∷ drop (k + 1) (tabulate n f)
+tabulate-drop {A} n f k h =
+    let e : suc k ≡ k + 1 = omega arith in
+    drop-cons (tabulate n f) k (f k) (omega (arith, tabulate-length n f))
+    ∙ ap₂ (λ (x : A) (j : ℕ). x ∷ drop j (tabulate n f)) (tabulate-at n f (f k) k h) e
+
+pub tabulate-past : {A : Type 0} (n : ℕ) (f : ℕ → A) (k : ℕ) → n ≤ k → drop k (tabulate n f) ≡ []
+tabulate-past n f k h = drop-of-length-le (tabulate n f) {i = k} (omega (arith, tabulate-length n f))
 
 -- one part after the other
 pub tabulate-add : {A : Type 0} (m n : ℕ) (f : ℕ → A) → tabulate (m + n) f ≡ tabulate m f ++ tabulate n (λ (i : ℕ). f (m + i))

@@ -2,7 +2,8 @@
 use borrow.Author.Needs.{needs}
 use mathlib.Core.Path.{sym, _∙_}
 use Rattle.words.proofs.Subheap.{told-false}
-use Rattle.certificate.proofs.{Answers.told-as, Passing.head-is}
+use Rattle.words.proofs.Answers.{told-as}
+use Rattle.certificate.proofs.Passing.{head-is}
 use Rattle.certificate.proofs.instance_holds.Statement.{statement}
 use Rattle.certificate.proofs.instance_holds.Tie as tie
 

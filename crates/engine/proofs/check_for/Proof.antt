@@ -2,7 +2,8 @@
 -- certificate.
 use mathlib.Core.Path.{refl}
 use Rattle.semantics.specs.Contract.{Checks}
-use Rattle.engine.proofs.Answers.{well-formed, block-long, few-records, chosen-taken, unread, answered}
+use Rattle.formats.proofs.Answers.{well-formed, block-long, unread, answered}
+use Rattle.engine.proofs.Answers.{few-records, chosen-taken}
 use borrow.Author.Needs.{needs}
 use Rattle.engine.proofs.check_for.Statement.{statement}
 use Rattle.engine.proofs.check_for.Tie as tie

@@ -1,7 +1,7 @@
 -- `decide_for` meets its contract: what the reader refuses is refused, then memory that does not fit together; otherwise the reply is that of
 -- `answer`.
 use mathlib.Core.Path.{refl}
-use Rattle.engine.proofs.Answers.{well-formed, block-long, unread, unlent, answered}
+use Rattle.formats.proofs.Answers.{well-formed, block-long, unread, unlent, answered}
 use borrow.Author.Needs.{needs}
 use Rattle.engine.proofs.decide_for.Statement.{statement}
 use Rattle.engine.proofs.decide_for.Tie as tie

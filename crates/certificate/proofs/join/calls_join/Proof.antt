@@ -8,7 +8,8 @@ use Rattle.semantics.specs.{Certificate.factAt, Fact.partOf}
 use Rattle.block.specs.Layout.{callCount}
 use Rattle.words.proofs.Subheap.{told-false, told-apart, told-shared}
 use Rattle.certificate.specs.Line.{givenBy, CallsOf}
-use Rattle.certificate.proofs.{Answers.told-equal, Joining.sum-small, Passing.CallsFrom, Passing.calls-step, Passing.calls-done}
+use Rattle.words.proofs.{Answers.told-equal, Disjoint.sum-small}
+use Rattle.certificate.proofs.{Passing.CallsFrom, Passing.calls-step, Passing.calls-done}
 use Rattle.certificate.proofs.join.calls_join.Statement.{statement}
 use Rattle.certificate.proofs.join.calls_join.Tie as tie
 

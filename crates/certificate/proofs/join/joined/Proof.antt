@@ -8,7 +8,7 @@ use Rattle.semantics.specs.Tree.{asked}
 use Rattle.block.specs.Layout.{atomIn, atomCount, atomPlace}
 use Rattle.words.proofs.Subheap.{told-false, told-apart, told-shared}
 use Rattle.certificate.specs.Line.{givenBy, FirstRecord, CallsOf, JoinOf}
-use Rattle.certificate.proofs.{Answers.told-as, Joining.sum-small}
+use Rattle.words.proofs.{Answers.told-as, Disjoint.sum-small}
 use Rattle.certificate.proofs.Passing.{found-first, found-none, AtomsFrom, atoms-step, atoms-first, atoms-done}
 use Rattle.certificate.proofs.join.joined.Statement.{statement}
 use Rattle.certificate.proofs.join.joined.Tie as tie

@@ -8,7 +8,7 @@ use Rattle.semantics.specs.Tree.{valueOf}
 use Rattle.block.specs.Layout.{termIn}
 use Rattle.words.proofs.Subheap.{told-true, told-false}
 use Rattle.certificate.specs.Line.{givenBy}
-use Rattle.certificate.proofs.Reading.{fields-are}
+use Rattle.block.proofs.TermsInBlock.{fields-are}
 use Rattle.certificate.proofs.rule.fields_match.Statement.{statement}
 use Rattle.certificate.proofs.rule.fields_match.Tie as tie
 
@@ -29,13 +29,13 @@ returns c =
     told-false
     (λ p.
     c .if1 .left
-    (fields-are (g .rules .now) (g .word) (g .terms) (g .count) (g .records .now) (g .fields) .0 p (l .loop .j) (omega arith)
+    (fields-are (g .rules .now) (givenBy (g .word)) (g .terms) (g .count) (g .records .now) (g .fields) .0 p (l .loop .j) (omega arith)
     ∙ sym (c .before .position .ensures)))
 
 returns-2 : tie.Need-returns-2 Inv-loop μ-loop
 returns-2 c =
     let g = c .before .before .args in
-    told-true (fields-are (g .rules .now) (g .word) (g .terms) (g .count) (g .records .now) (g .fields) .1 (λ j h. c .before .loop .inv .1 j (omega arith)))
+    told-true (fields-are (g .rules .now) (givenBy (g .word)) (g .terms) (g .count) (g .records .now) (g .fields) .1 (λ j h. c .before .loop .inv .1 j (omega arith)))
 
 pub fields-match-spec : {M : Type 1} → statement M
 fields-match-spec =
