@@ -1,0 +1,4 @@
+pub mod Values
+pub mod Records
+pub mod Links
+pub mod Found

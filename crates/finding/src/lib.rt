@@ -1,0 +1,52 @@
+// The values of a rule's variables, found from the head's arguments along equalities and along the fields of records at known addresses. What
+// is found is what the rule must have wherever it applies; in a plain rule set that is all there is.
+mod links;
+pub mod records;
+pub mod values;
+
+use block::HeapBlock;
+use block::RuleBlock;
+use block::head_arity;
+use block::variable_count;
+use links::along_atoms;
+use links::along_pures;
+use values::OPEN;
+use values::Values;
+ghost use Rattle.semantics.specs.Heap.{WellFormedHeap};
+ghost use Rattle.block.specs.Layout.{heapIn, headArity};
+ghost use Rattle.block.specs.Ready.{Formed, variablesIn};
+ghost use Rattle.finding.specs.Values.{Counted};
+ghost use Rattle.finding.specs.Found.{Opened, FoundIn};
+
+// The head's arguments, as a beginning: every bound variable is open. Their number.
+fn begin(rules: &RuleBlock, rule: usize, values: &mut Values) -> usize
+    requires { ⌜ Formed (now rules) rule × Counted (now values) 0 ⌝ }
+    ensures { λ r. ⌜ Opened (headArity (now (rules .entry)) rule) (variablesIn (now (rules .entry)) rule) (now (values .entry)) (now (values .exit)) × Counted (now (values .exit)) r ⌝ }
+{
+    let arity = head_arity(rules, rule);
+    let count = variable_count(rules, rule);
+    let mut v = arity;
+    while v < count {
+        values[v] = OPEN;
+        v += 1;
+    }
+    count - arity
+}
+
+// Finds the values of the rule's variables from the arguments of its head, which are the first entries; gives the number of variables that
+// stay open. Each turn goes along every link once and ends the search if nothing is learnt.
+pub fn find(rules: &RuleBlock, rule: usize, heap: &HeapBlock, values: &mut Values) -> usize
+    requires { ⌜ Formed (now rules) rule × WellFormedHeap (heapIn (now heap)) × Counted (now values) 0 ⌝ }
+    ensures { λ r. ⌜ FoundIn (now (rules .entry)) rule (now (heap .entry)) (now (values .entry)) (now (values .exit)) × Counted (now (values .exit)) r ⌝ }
+{
+    let mut unknown = begin(rules, rule, values);
+    while 0 < unknown {
+        let some = along_pures(rules, rule, values, unknown);
+        let left = along_atoms(rules, rule, heap, values, some);
+        if left == unknown {
+            return unknown;
+        }
+        unknown = left;
+    }
+    0
+}
