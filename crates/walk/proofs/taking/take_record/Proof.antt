@@ -1,0 +1,106 @@
+-- `take_record` looks at the one record that can be asked for: the one at the atom's address.
+use borrow.Author.Needs.{needs}
+use mathlib.Core.Path.{_≡_, refl, sym, ap, _∙_}
+use Prim.Native.Nat.{ℕ, _+_, _^_, _<_}
+use native.Mathlib.Omega.{arith}
+use lib.{ListN.length, ListN.getD, Bits.bitAnd}
+use Rattle.words.proofs.{Disjoint.sum-small, Subheap.told-apart, Subheap.told-shared}
+use Rattle.block.specs.Layout.{heapIn, atomAddress, recordCount, recordAddress}
+use Rattle.block.proofs.{HeapInBlock.heap-count, HeapInBlock.record-is, HeapInBlock.records-few, Scopes.formed-address, TermsInBlock.term-variable}
+use Rattle.finding.proofs.Addresses.{is-there}
+use Rattle.walk.specs.Taking.TakesFree.{taken, stuck}
+use Rattle.walk.proofs.TakingRecords.{Wanted, nowhere, only}
+use Rattle.walk.proofs.taking.take_record.Statement.{statement}
+use Rattle.walk.proofs.taking.take_record.Tie as tie
+
+entry-requires : tie.Need-entry-requires
+entry-requires c κs = rw (c .atom-address .ensures) (formed-address (c .before .pre .0) (c .before .args .g) (c .before .pre .1))
+
+-- the atom's address
+abbrev asks : tie.Start → ℕ
+asks s = getD (s .args .values .now) (atomAddress (s .args .rules .now) (s .args .rule) (s .args .g)) 0
+
+address : (c : tie.After-entry) → c .entry .result ≡ asks (c .before .before)
+address c =
+    let s : tie.Start = c .before .before in
+    let ready = s .pre .0 .ready in
+    rw (c .before .atom-address .ensures) at (c .entry .ensures)
+    ∙ sym (term-variable (s .args .values .now) (atomAddress (s .args .rules .now) (s .args .rule) (s .args .g))
+    (omega (arith, ready .variables-few, ready .atom-address (s .args .g) (s .pre .1))))
+
+-- where there is a record at it
+below : (c : tie.Else1) → c .before .before .record-at .result < recordCount (c .before .before .before .before .before .args .heap .now)
+below c = omega (arith, c .if1 .left, c .before .record-count .ensures .0)
+
+few : (c : tie.Else1) → c .before .before .record-at .result < 16
+few c = let s = c .before .before .before .before .before in omega (arith, below c, records-few (s .args .heap .now) (s .pre .2))
+
+there-is : (c : tie.Else1) → recordAddress (c .before .before .before .before .before .args .heap .now) (c .before .before .record-at .result) ≡ asks (c .before .before .before .before .before)
+there-is c =
+    let at : tie.After-record-at = c .before .before in
+    is-there (at .record-at .ensures) (below c) ∙ address (at .before)
+
+-- no other is asked for
+the-one : (c : tie.Else1) (k : ℕ) → let g = c .before .before .before .before .before .args in
+    k < length (heapIn (g .heap .now)) → Wanted (g .rules .now) (g .rule) (g .g) (g .values .now) (g .heap .now) k → k ≡ c .before .before .record-at .result
+the-one c k low w =
+    let s : tie.Start = c .before .before .before .before .before in
+    let g = s .args in
+    only (g .rules .now) (g .rule) (g .g) (g .values .now) (g .heap .now) (s .pre .2) (c .before .before .record-at .result) (below c) (there-is c) k low w
+
+returns : tie.Need-returns
+returns c =
+    let at : tie.After-record-at = c .before .before in
+    let g = at .before .before .before .args in
+    stuck refl
+    (λ k low w z.
+    nowhere (g .rules .now) (g .rule) (g .g) (g .values .now) (g .heap .now) (address (at .before)) (at .record-at .ensures)
+    (omega (arith, c .if1 .taken, c .before .record-count .ensures .0)) k low w)
+
+returns-2 : tie.Need-returns-2
+returns-2 c =
+    let e : tie.Else1 = c .before .before .before in
+    let mask = e .before .before .before .before .before .args .mask in
+    stuck refl
+    (λ k low w z.
+    told-shared (c .before .shares .ensures) (c .if2 .taken)
+    (ap (λ (x : ℕ). bitAnd x mask) (c .before .before .bit .ensures ∙ ap (λ (j : ℕ). 2 ^ j) (sym (the-one e k low w))) ∙ z))
+
+record-matches-requires : tie.Need-record-matches-requires
+record-matches-requires c κs =
+    let e : tie.Else1 = c .before .before .before in
+    let s = e .before .before .before .before .before in
+    (s .pre .0, s .pre .1, few e, there-is e)
+
+-- the record is free
+free : (c : tie.Else2) → bitAnd (c .before .before .bit .result) (c .before .before .before .before .before .before .before .before .args .mask) ≡ 0
+free c = told-apart (c .before .shares .ensures) (c .if2 .left)
+
+add-t15 : tie.Need-add-t15
+add-t15 c =
+    let s = c .before .before .before .before .before .before .before .before .before .before in
+    let small = sum-small (c .before .before .before .before .bit .result) (s .args .mask) (omega (arith, c .before .before .before .before .bit .ok)) (omega arith) (free (c .before .before)) in
+    omega (arith, small)
+
+returns-3 : tie.Need-returns-3
+returns-3 c =
+    let b : tie.After-bit = c .before .before .before .before in
+    let e : tie.Else1 = b .before in
+    let g = e .before .before .before .before .before .args in
+    let i : ℕ = e .before .before .record-at .result in
+    taken refl i (omega (arith, below e, heap-count (g .heap .now))) (sym (record-is (g .heap .now) i (below e)) ∙ c .before .record-matches .ensures .so (c .if3 .taken))
+    (ap (λ (x : ℕ). bitAnd x (g .mask)) (sym (b .bit .ensures)) ∙ free (c .before .before)) (ap (λ (x : ℕ). x + g .mask) (b .bit .ensures))
+
+returns-4 : tie.Need-returns-4
+returns-4 c =
+    let e : tie.Else1 = c .before .before .before .before .before in
+    let g = e .before .before .before .before .before .args in
+    stuck refl
+    (λ k low w z.
+    c .before .record-matches .ensures .not-so (c .if3 .left) (record-is (g .heap .now) (e .before .before .record-at .result) (below e) ∙ rw (the-one e k low w) at w))
+
+pub take-record-spec : {M : Type 1} → statement M
+take-record-spec =
+    tie.close
+    (tie.spec (λ c κs. search needs) entry-requires (λ c κs. search needs) (λ c κs. search needs) returns (λ c κs. few c) (λ c κs. search needs)
+    returns-2 record-matches-requires add-t15 returns-3 returns-4)

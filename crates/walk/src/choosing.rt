@@ -1,0 +1,94 @@
+// The choice of a rule for a predicate with its arguments: the first one that can be unfolded there.
+use super::Choice;
+use super::Taken;
+use super::taking::pures_hold;
+use super::taking::take;
+use block::HeapBlock;
+use block::RuleBlock;
+use block::atom_count;
+use block::call_count;
+use block::head;
+use block::rule_count;
+use block::rule_place;
+use finding::find;
+use finding::values::Values;
+use words::wide;
+ghost use mathlib.Core.Bool.{Bool};
+ghost use Prim.Native.Nat.{_<_};
+ghost use Rattle.words.specs.Subheap.{Told};
+ghost use Rattle.block.specs.Layout.{predicateCount};
+ghost use Rattle.block.specs.Ready.{Formed};
+ghost use Rattle.finding.specs.Values.{Counted};
+ghost use Rattle.walk.specs.Walk.{Readable, RulePlace, Serves, Attempts, Chooses};
+
+// Whether a rule is for a predicate, and may be unfolded: with calls, it has a points-to atom.
+fn serves(rules: &RuleBlock, rule: usize, predicate: usize) -> bool
+    requires { ⌜ Formed (now rules) rule ⌝ }
+    ensures { λ (r : Bool). ⌜ Told r (Serves (now (rules .entry)) rule predicate) ⌝ }
+{
+    if wide(head(rules, rule)) != predicate {
+        return false;
+    }
+    if call_count(rules, rule) == 0 {
+        return true;
+    }
+    atom_count(rules, rule) != 0
+}
+
+// Tries a rule: its values found, its pure conditions met, its records free.
+fn attempt(
+    rules: &RuleBlock,
+    rule: usize,
+    heap: &HeapBlock,
+    predicate: usize,
+    arguments: &Values,
+    mask: u16,
+    values: &mut Values,
+) -> Taken
+    requires { ⌜ Readable (now rules) (now heap) × RulePlace (now rules) rule × Counted (now arguments) 0 ⌝ }
+    ensures { λ r. ⌜ Attempts (now (rules .entry)) rule (now (heap .entry)) predicate (now (arguments .entry)) mask (now (values .exit)) (r .ok) (r .mask) ⌝ }
+{
+    if serves(rules, rule, predicate) {
+        *values = *arguments;
+        if find(rules, rule, heap, values) == 0 {
+            if pures_hold(rules, rule, values) {
+                return take(rules, rule, values, heap, mask);
+            }
+        }
+    }
+    Taken { ok: false, mask }
+}
+
+// The first rule that can be unfolded for a predicate with its arguments, where the records of the mask are taken; and the values of its
+// variables.
+pub fn choose(
+    rules: &RuleBlock,
+    heap: &HeapBlock,
+    predicate: usize,
+    arguments: &Values,
+    mask: u16,
+    values: &mut Values,
+) -> Choice
+    requires { ⌜ Readable (now rules) (now heap) × (predicate < predicateCount (now rules)) × Counted (now arguments) 0 ⌝ }
+    ensures { λ r. ⌜ Chooses (now (rules .entry)) (now (heap .entry)) predicate (now (arguments .entry)) mask (now (values .exit)) r ⌝ }
+{
+    let count = rule_count(rules);
+    let mut r = 0;
+    while r < count {
+        let rule = rule_place(r);
+        let tried = attempt(rules, rule, heap, predicate, arguments, mask, values);
+        if tried.ok {
+            return Choice {
+                ok: true,
+                rule,
+                mask: tried.mask,
+            };
+        }
+        r += 1;
+    }
+    Choice {
+        ok: false,
+        rule: 0,
+        mask,
+    }
+}
