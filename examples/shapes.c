@@ -1,5 +1,5 @@
 /* Lends memory, asks whether 10:(20) 20:(10) is a list segment from 10 to 10, reads the unfolding and has it checked. Then asks whether
- * some part of these records is a segment from 10 to 20, and has that checked. */
+ * some part of these records is a segment from 10 to 20, and has that checked. Last, the quick walk: it needs a plain book, and is lent nothing. */
 #include <inttypes.h>
 #include <stdio.h>
 
@@ -13,6 +13,10 @@ static const uint8_t book[] = {1, 2, 2, 0, 0, 1, 0, 0, 1, 0, 0, 0, 1, 0, 1, 0, 1
 static const uint8_t snapshot[] = {2, VALUE(10), 1, VALUE(20), VALUE(20), 1, VALUE(10)};
 static const uint8_t question[] = {0, 2, VALUE(10), VALUE(10)};
 static const uint8_t to_20[] = {0, 2, VALUE(10), VALUE(20)};
+/* The same with a != b in the second case: examples/plain/segment.book, which is plain. */
+static const uint8_t plain[] = {1, 2, 2, 0, 0, 1, 0, 0, 1, 0, 0, 0, 1, 1, 1, 0, 1, 1, 0, 1, 2, 1, 0, 2, 1};
+static const uint8_t chain[] = {2, VALUE(10), 1, VALUE(20), VALUE(20), 1, VALUE(30)};
+static const uint8_t to_30[] = {0, 2, VALUE(10), VALUE(30)};
 static const unsigned kept[] = {0, 1, 2, 3, 10, 20}; /* nil, a spare for each of the three variables, and what question and snapshot have */
 
 int main(void)
@@ -40,5 +44,10 @@ int main(void)
     printf("some part: refusal %" PRIu64 ", %s, records 0x%04x\n", refusal, verdict ? "fits" : "does not fit", (unsigned)part);
     refusal = shapes_check_part(book, sizeof book, snapshot, sizeof snapshot, to_20, sizeof to_20, part, space, 3 * lines, &taken);
     printf("check of this part: refusal %" PRIu64 ", %s\n", refusal, taken ? "taken" : "not taken");
+
+    refusal = shapes_walk(plain, sizeof plain, chain, sizeof chain, to_30, sizeof to_30, &verdict);
+    printf("walk to 30: refusal %" PRIu64 ", %s\n", refusal, verdict ? "fits" : "does not fit");
+    refusal = shapes_walk(plain, sizeof plain, chain, sizeof chain, to_20, sizeof to_20, &verdict);
+    printf("walk to 20: refusal %" PRIu64 ", %s\n", refusal, verdict ? "fits" : "does not fit");
     return 0;
 }

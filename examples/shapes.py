@@ -1,6 +1,6 @@
 #!/usr/bin/env python3
 """Asks the shared library whether two records that point to one another are a list segment from the first to itself, reads the unfolding
-and has it checked; then the same for some part of the records. target/libshapes.so is made by the first `./shapes ask`."""
+and has it checked; then the same for some part of the records; last, the quick walk of a plain book. target/libshapes.so is made by the first `./shapes ask`."""
 from ctypes import CDLL, byref, c_size_t, c_uint8, c_uint16, c_uint64
 from pathlib import Path
 
@@ -8,6 +8,9 @@ BOOK = bytes.fromhex("01 02 02  00 00 01 00 00 01 00 00  00 01 00 01 00 01 02 01
 SNAPSHOT = bytes.fromhex("02  0A000000 01 14000000  14000000 01 0A000000")  # 10: 20 and 20: 10
 QUESTION = bytes.fromhex("00 02 0A000000 0A000000")  # segment(10, 10)
 TO_20 = bytes.fromhex("00 02 0A000000 14000000")  # segment(10, 20)
+PLAIN = bytes.fromhex("01 02 02  00 00 01 00 00 01 00 00  00 01 01 01 00 01 01 00 01 02 01 00 02 01")  # those of examples/plain/segment.book
+CHAIN = bytes.fromhex("02  0A000000 01 14000000  14000000 01 1E000000")  # 10: 20 and 20: 30
+TO_30 = bytes.fromhex("00 02 0A000000 1E000000")  # segment(10, 30)
 KEPT = (0, 1, 2, 3, 10, 20)  # nil, three spares since the largest rule has three variables, and what snapshot and question name
 LINES = 1024
 
@@ -20,7 +23,7 @@ path = Path(__file__).resolve().parent.parent / "target" / "libshapes.so"
 if not path.exists():
     raise SystemExit("target/libshapes.so is not there yet: the first ./shapes ask makes it")
 library = CDLL(str(path))
-for entry in (library.shapes_decide, library.shapes_check, library.shapes_part, library.shapes_check_part):
+for entry in (library.shapes_decide, library.shapes_check, library.shapes_part, library.shapes_check_part, library.shapes_walk):
     entry.restype = c_uint64
 
 table, space = (c_uint64 * LINES)(), (c_uint64 * (3 * LINES))()
@@ -44,3 +47,7 @@ refusal = library.shapes_part(*asked, *memory, byref(verdict), byref(part), byre
 print(f"some part: refusal {refusal} verdict {verdict.value} records {part.value:02b} lines {lines.value}")
 refusal = library.shapes_check_part(*asked, part, space, c_size_t(3 * lines.value), byref(taken))
 print(f"check of this part: refusal {refusal} taken {taken.value}")
+
+for question in (TO_30, TO_20):
+    refusal = library.shapes_walk(*lent(PLAIN, CHAIN, question), byref(verdict))
+    print(f"walk: refusal {refusal} verdict {verdict.value}")

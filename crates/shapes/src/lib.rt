@@ -1,6 +1,7 @@
 // The library for C: every call with the memory that its caller lends. A call returns the refusal, 0 for none, and writes the other
 // numbers of its reply on every way out.
 mod part;
+mod walking;
 
 ghost use Rattle.semantics.specs.Contract.{Decided, Checked};
 
