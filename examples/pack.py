@@ -26,6 +26,7 @@ is printed of the operation, a byte of 128 or more is the place of a number that
     check           the check of the words, which follow on a word 1
     find T S        as lend, asked about some part, and whether the check takes what was written. Words 2 T S; 1024 3072 where none are given
     check-part P    the check of the words for a part, in base sixteen. They follow on a word 3 and the part
+    walk            the quick walk, and the engine with 1,024 lines beside it. Words 4 0 0
     damage          the check of the engine's certificate, whole and damaged. No words
 """
 import re
@@ -40,6 +41,7 @@ PRINTED = {
     "check": "refusal @0 taken @1",
     "find": "refusal @0 verdict @1 part @2 facts @3 rounds @4 lines @5, taken @8, left: table @6 space @7",
     "check-part": "refusal @0 taken @1",
+    "walk": "refusal @0 verdict @1, engine: refusal @2 verdict @3",
     "damage": "whole @0, bits @1 of @2, words @3 of @4, a line less @5, a word less @6, a line of 0 more @7, the last line again @8",
 }
 SPOILT = 0xC8
@@ -87,6 +89,8 @@ def cases(text, operation, blocks, words):
         tried = []
     elif kind in ("check", "check-part"):
         tried = [3 if lent else 1] + [int(word, 16) for word in lent + words]
+    elif kind == "walk":
+        tried = [4, 0, 0]
     else:
         tried = [2 * (kind == "find")] + ([int(number) for number in lent] or [1024, 3072])
     line = re.sub(rb"@(\d)", lambda m: bytes([128 + int(m[1])]), f"{text}: {PRINTED[kind]}\n".encode())

@@ -36,7 +36,7 @@ def program_cases(program: str, many: int) -> list[tuple[int, bytes, bytes, byte
     if program == "faults":
         refusals = [int(number) for line in expected.splitlines() for number in line.rsplit(":", 1)[1].split()]
     else:
-        refusals = [int(number) for number in re.findall(r"refusal (\d+)", expected)]
+        refusals = [int(number) for number in re.findall(r"^.*?refusal (\d+)", expected, re.MULTILINE)]
         cases = [case for case in cases if b"refusal" in case[0]]
     return [(refusal, *case[-3:]) for refusal, case in zip(refusals, cases, strict=True)]
 

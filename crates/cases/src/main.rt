@@ -4,6 +4,7 @@
 mod damage;
 mod lent;
 mod parts;
+mod walks;
 
 ghost use Prim.Native.Nat.{_+_, _≤_};
 ghost use lib.ListN.{length};
@@ -63,7 +64,7 @@ fn check(input: &[u8], words: &[u64]) -> CheckReply {
 }
 
 // Tries what the words say. No words: the engine's own certificate, damaged. A word 0: the engine, with the memory that two words more say.
-// A word 1: the check of the words after it. Another word: what is asked about a part.
+// A word 1: the check of the words after it. Another word: what is asked about a part, or the walk.
 fn tried(words: &[u64], input: &[u8]) -> [u64; 9] {
     if words.len() < 3 {
         return damage::certified(input);

@@ -1,7 +1,9 @@
-// The engine asked about some part, with the memory that a case lends it, and the check for a part. Each word lent is 1 before the call.
+// What needs book, snapshot and question apart: the engine asked about some part, with the memory that a case lends it, the check for a part,
+// and the quick walk. Each word lent is 1 before the call.
 ghost use Prim.Native.Nat.{_≤_};
 ghost use lib.ListN.{length};
 use super::lent::used;
+use super::walks::walked;
 
 // 1 if the check takes the first n of the words for the part, else 0.
 fn taken(book: &[u8], snapshot: &[u8], question: &[u8], part: u16, words: &[u64], n: usize) -> u64 {
@@ -58,7 +60,7 @@ fn lend(book: &[u8], snapshot: &[u8], question: &[u8], lines: usize, words: usiz
     )
 }
 
-// A word 2: the engine, with the memory that two words more say. Otherwise the check, for the part and the words after it.
+// A word 2: the engine, with the memory that two words more say. A word 4: the walk. Otherwise the check, for the part and the words after it.
 fn asked(book: &[u8], snapshot: &[u8], question: &[u8], words: &[u64]) -> [u64; 9]
     requires { ⌜ 3 ≤ length (now words) ⌝ }
 {
@@ -70,6 +72,9 @@ fn asked(book: &[u8], snapshot: &[u8], question: &[u8], words: &[u64]) -> [u64; 
             words[1] as usize,
             words[2] as usize,
         );
+    }
+    if words[0] == 4 {
+        return walked(book, snapshot, question);
     }
     let reply = engine::check_part(
         book,
