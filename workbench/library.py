@@ -66,6 +66,14 @@ def check(book: bytes, snapshot: bytes, question: bytes, words: Sequence[int], p
     return refusal, taken.value
 
 
+def walk(book: bytes, snapshot: bytes, question: bytes) -> tuple[int, int]:
+    """The refusal, and 1 where the quick walk finds that the whole pool fits. It needs no table. Its 0 says that the pool does not fit only
+    where the book is plain."""
+    verdict = ctypes.c_uint64()
+    refusal = _call(_loaded().shapes_walk, _blocks(book, snapshot, question) + [ctypes.byref(verdict)])
+    return refusal, verdict.value
+
+
 def _blocks(*blocks: bytes) -> list:
     lent = []
     for block in blocks:
@@ -114,6 +122,7 @@ def _entries(library: ctypes.CDLL) -> list:
         (library.shapes_part, BLOCKS + words * 2 + [WORDS, ctypes.POINTER(ctypes.c_uint16)] + [WORDS] * 3),
         (library.shapes_check, BLOCKS + words + [WORDS]),
         (library.shapes_check_part, BLOCKS + [ctypes.c_uint16] + words + [WORDS]),
+        (library.shapes_walk, BLOCKS + [WORDS]),
     ]
 
 

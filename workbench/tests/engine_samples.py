@@ -1,5 +1,7 @@
 """Books, pools and questions that several tests use, as objects and as bytes, so that these tests need no reader of text."""
 
+from dataclasses import replace
+
 from workbench.model import EQUAL, NIL, UNEQUAL, Book, Call, Cell, Condition, Pool, Predicate, Question, Record, Rule
 
 SEGMENT_RULES = (
@@ -8,6 +10,10 @@ SEGMENT_RULES = (
 )
 L = Book((Predicate("segment", 2),), SEGMENT_RULES)
 L_BYTES = bytes.fromhex("01 02 02 00 00 01 00 00 01 00 00 00 01 00 01 00 01 02 01 00 02 01")
+
+# The same where the second rule has a != b too: a plain book, which L is not.
+PLAIN = Book((Predicate("segment", 2),), (SEGMENT_RULES[0], replace(SEGMENT_RULES[1], conditions=(Condition(UNEQUAL, 0, 1),))))
+PLAIN_BYTES = bytes.fromhex("01 02 02 00 00 01 00 00 01 00 00 00 01 01 01 00 01 01 00 01 02 01 00 02 01")
 
 # P(a) if b is not a and Q(a, b); Q(a, b) of no record. The bound variable b takes a spare.
 S = Book(
@@ -32,6 +38,11 @@ TWO = Pool((Record(10, (20,)), Record(20, (10,))))
 TWO_BYTES = bytes.fromhex("02 0A000000 01 14000000 14000000 01 0A000000")
 FROM_TEN_TO_TEN = Question(0, (10, 10))
 FROM_TEN_TO_TEN_BYTES = bytes.fromhex("00 02 0A000000 0A000000")
+
+CHAIN = Pool((Record(10, (20,)), Record(20, (0,))))
+CHAIN_BYTES = bytes.fromhex("02 0A000000 01 14000000 14000000 01 00000000")
+FROM_TEN_TO_NIL = Question(0, (10, 0))
+FROM_TEN_TO_NIL_BYTES = bytes.fromhex("00 02 0A000000 00000000")
 
 # Which fits no more than the first of the two records.
 FROM_TEN_TO_TWENTY = Question(0, (10, 20))

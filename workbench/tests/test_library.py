@@ -10,7 +10,8 @@ from unittest import mock
 from workbench import library
 from workbench.mistake import Unusable
 from workbench.tests.engine_samples import (
-    FROM_TEN_TO_TEN_BYTES, FROM_TEN_TO_TWENTY_BYTES, L_BYTES, NOTHING_BYTES, S_BYTES, TEN_WORDS, TWO_BYTES, TWO_WORDS,
+    CHAIN_BYTES, FROM_TEN_TO_NIL_BYTES, FROM_TEN_TO_TEN_BYTES, FROM_TEN_TO_TWENTY_BYTES, L_BYTES, NOTHING_BYTES, PLAIN_BYTES, S_BYTES,
+    TEN_WORDS, TWO_BYTES, TWO_WORDS,
 )  # fmt: skip
 
 
@@ -79,6 +80,26 @@ class Parts(unittest.TestCase):
         self.assertEqual(library.check(*asked, TEN_WORDS), (0, 0))
         self.assertEqual(library.check(L_BYTES, TWO_BYTES, FROM_TEN_TO_TEN_BYTES, TWO_WORDS, 3), (0, 1))
         self.assertEqual(library.check(b"", *asked[1:], TEN_WORDS, 1), (1, 0))
+
+
+class Walks(unittest.TestCase):
+    def test_fits(self):
+        self.assertEqual(library.walk(PLAIN_BYTES, CHAIN_BYTES, FROM_TEN_TO_NIL_BYTES), (0, 1))
+
+    def test_does_not_fit(self):
+        self.assertEqual(library.walk(PLAIN_BYTES, CHAIN_BYTES, FROM_TEN_TO_TWENTY_BYTES), (0, 0))
+        self.assertEqual(library.walk(PLAIN_BYTES, TWO_BYTES, FROM_TEN_TO_NIL_BYTES), (0, 0))
+
+    def test_refusals(self):
+        for refusal, asked in {
+            1: (PLAIN_BYTES[:-1], CHAIN_BYTES, FROM_TEN_TO_NIL_BYTES),
+            4: (PLAIN_BYTES + b"\0", CHAIN_BYTES, FROM_TEN_TO_NIL_BYTES),
+            5: (PLAIN_BYTES, b"", FROM_TEN_TO_NIL_BYTES),
+            8: (PLAIN_BYTES, CHAIN_BYTES + b"\0", FROM_TEN_TO_NIL_BYTES),
+            9: (PLAIN_BYTES, CHAIN_BYTES, b""),
+        }.items():
+            with self.subTest(refusal=refusal):
+                self.assertEqual(library.walk(*asked), (refusal, 0))
 
 
 class Making(unittest.TestCase):
