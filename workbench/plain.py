@@ -1,0 +1,109 @@
+"""Whether a book is plain: each rule with calls has a cell, every variable is fixed, and no arguments meet the conditions of two rules. For a
+plain book a no of the quick walk says that the pool does not fit; for another it says nothing. This test is the workbench's own and not
+proved, and the walk does not make it."""
+
+from collections.abc import Iterator
+from itertools import chain, combinations
+
+from workbench.lexer import shorten
+from workbench.model import EQUAL, NIL, UNEQUAL, Book, Rule
+from workbench.values import write_value
+
+
+def not_plain(book: Book) -> str:
+    """The first reason why the book is not plain, or an empty text where it is."""
+    return next(chain(_calls_without_cell(book), _open_variables(book), _met_together(book)), "")
+
+
+def _calls_without_cell(book: Book) -> Iterator[str]:
+    for number, rule in enumerate(book.rules):
+        if rule.calls and not rule.cells:
+            called = book.predicates[rule.calls[0].predicate].name
+            yield f"{_rules(book, number)} calls {shorten(called)} and has no cell"
+
+
+def _open_variables(book: Book) -> Iterator[str]:
+    """Whether a variable is used makes no difference."""
+    for number, rule in enumerate(book.rules):
+        fixed = fixed_terms(rule, book.predicates[rule.predicate].arguments)
+        for variable, name in enumerate(rule.variables):
+            if variable not in fixed:
+                yield f"variable {shorten(name)} of {_rules(book, number)} is not fixed"
+
+
+def _met_together(book: Book) -> Iterator[str]:
+    """Rules are told apart by their numbers, so that one that is written twice must exclude itself."""
+    for (i, first), (j, second) in combinations(enumerate(book.rules), 2):
+        predicate = book.predicates[first.predicate]
+        if first.predicate == second.predicate:
+            arguments = met_by_both(first, second, predicate.arguments)
+            if arguments is not None:
+                example = f"{shorten(predicate.name)}({', '.join(map(write_value, arguments))})"
+                yield f"the conditions of {_rules(book, i, j)} can both be met, for example by {example}"
+
+
+def fixed_terms(rule: Rule, arguments: int) -> set[int]:
+    """nil and the head's variables, and step by step what these fix: along an equality either way round, and from a cell's address to its
+    fields. How the rule is written decides: conditions that contradict one another fix nothing by that."""
+    fixed = {NIL, *range(arguments)}
+    while True:
+        ends = [{each.left, each.right} for each in rule.conditions if each.kind == EQUAL]
+        more = set[int]().union(*(both for both in ends if both & fixed), *(cell.fields for cell in rule.cells if cell.address in fixed))
+        if more <= fixed:
+            return fixed
+        fixed |= more
+
+
+# A term of one of two rules: 0 and the term for nil and the head's variables, which both have, and the rule's own number, 1 or 2, with the
+# term for a bound variable.
+_Term = tuple[int, int]
+
+
+class _Classes:
+    """Terms that equalities make the same."""
+
+    def __init__(self) -> None:
+        self._above: dict[_Term, _Term] = {}
+
+    def of(self, term: _Term) -> _Term:
+        """The one term that stands for its class."""
+        while term in self._above:
+            term = self._above[term]
+        return term
+
+    def join(self, left: _Term, right: _Term) -> None:
+        left, right = self.of(left), self.of(right)
+        if left != right:
+            self._above[left] = right
+
+
+def met_by_both(first: Rule, second: Rule, arguments: int) -> tuple[int, ...] | None:
+    """Arguments for which the conditions of either rule can be met, with any whole numbers for its bound variables; None where there are
+    none. Nothing but an inequality between terms of one class is in the way: there are numbers enough for each class to have its own."""
+
+    def pairs(kind: int) -> Iterator[tuple[_Term, _Term]]:
+        for own, rule in ((1, first), (2, second)):
+            for each in rule.conditions:
+                if each.kind == kind:
+                    left, right = ((0 if term == NIL or term < arguments else own, term) for term in (each.left, each.right))
+                    yield left, right
+
+    classes = _Classes()
+    for left, right in pairs(EQUAL):
+        classes.join(left, right)
+    if any(classes.of(left) == classes.of(right) for left, right in pairs(UNEQUAL)):
+        return None
+    numbers = {classes.of((0, NIL)): 0}
+    return tuple(numbers.setdefault(classes.of((0, argument)), len(numbers)) for argument in range(arguments))
+
+
+def _rules(book: Book, *numbers: int) -> str:
+    """Such as `rule 2 of segment (line 4)`, or two rules of one predicate. A book that is bytes has no lines."""
+    name = shorten(book.predicates[book.rules[numbers[0]].predicate].name)
+    lines = list(dict.fromkeys(book.rules[number].line for number in numbers))
+    where = f" ({_counted('line', lines)})" if all(lines) else ""
+    return f"{_counted('rule', [number + 1 for number in numbers])} of {name}{where}"
+
+
+def _counted(what: str, numbers: list[int]) -> str:
+    return f"{what}{'s' * (len(numbers) > 1)} {' and '.join(map(str, numbers))}"

@@ -1,0 +1,226 @@
+"""Plain books, and books that miss one of the three sentences by a little."""
+
+import unittest
+from dataclasses import replace
+from itertools import product
+from random import Random
+
+from workbench.book_bytes import decode_book, encode_book
+from workbench.book_text import parse_book
+from workbench.model import EQUAL, NIL, UNEQUAL, Book, Cell, Condition, Predicate, Rule
+from workbench.plain import fixed_terms, met_by_both, not_plain
+from workbench.tests.engine_samples import H, L, PLAIN, S
+
+
+def reason(text: str) -> str:
+    return not_plain(parse_book(text, "book"))
+
+
+def some_rule(chance: Random, arguments: int, bound: int) -> Rule:
+    """With a few conditions over its variables and nil, and cells of any of them."""
+    variables = arguments + bound
+    terms = [*range(variables), NIL]
+    conditions = [Condition(chance.randrange(2), *chance.choices(terms, k=2)) for _ in range(chance.randrange(4))]
+    cells = [Cell(chance.randrange(variables), tuple(chance.choices(terms, k=2))) for _ in range(chance.randrange(3) if variables else 0)]
+    return Rule(0, tuple("abcdefgh"[:variables]), tuple(conditions), tuple(cells))
+
+
+class Books(unittest.TestCase):
+    def test_samples(self):
+        self.assertEqual(not_plain(PLAIN), "")
+        both = "the conditions of rules 1 and 2 of segment (lines 3 and 4) can both be met, for example by segment(1, 1)"
+        self.assertEqual(not_plain(L), both)
+        self.assertEqual(not_plain(H), "rule 4 of queue calls segment and has no cell")
+        self.assertEqual(not_plain(S), "rule 1 of P calls Q and has no cell")
+
+    def test_the_first_sentence_comes_first(self):
+        text = "p { z != a => p(a) | emp => p(a) | %s => p(a) }"
+        self.assertRegex(reason(text % "p(a)"), "^rule 3 of p .* has no cell$")
+        self.assertRegex(reason(text % "emp"), "^variable z of rule 1 of p .* is not fixed$")
+        self.assertRegex(reason(text.replace("z", "nil") % "emp"), "^the conditions of rules 1 and 2 of p .* p\\(1\\)$")
+
+    def test_lines(self):
+        self.assertIn("rules 1 and 2 of p (lines 2 and 4) ", reason("p {\nemp => p(a)\n|\nemp => p(a) }"))
+        self.assertIn("rules 1 and 2 of p (line 1) ", reason("p { emp => p(a) | emp => p(a) }"))
+        self.assertIn("rules 1 and 2 of p0 can ", not_plain(decode_book(encode_book(L))))
+
+    def test_a_long_name_is_shortened(self):
+        self.assertLess(len(reason(f"{'p' * 1000} {{ emp => {'p' * 1000}({'a' * 1000}) | emp => {'p' * 1000}(a) }}")), 200)
+
+    def test_no_rules(self):
+        self.assertEqual(reason("p(a) { }"), "")
+
+
+class Calls(unittest.TestCase):
+    def test_a_rule_with_calls_has_a_cell(self):
+        self.assertEqual(reason("p { q() => p() } ; q { emp => q() }"), "rule 1 of p (line 1) calls q and has no cell")
+        self.assertEqual(reason("p { a -> a * q() => p(a) } ; q { emp => q() }"), "")
+        # A condition is no cell, whatever it says.
+        self.assertEqual(reason("p { a != a * p(a) => p(a) }"), "rule 1 of p (line 1) calls p and has no cell")
+
+    def test_a_rule_without_calls_need_not(self):
+        self.assertEqual(reason("p { a = nil => p(a) }"), "")
+        self.assertEqual(reason("p { emp => p() }"), "")
+
+
+class Variables(unittest.TestCase):
+    def is_fixed(self, atoms: str) -> None:
+        with self.subTest(atoms=atoms):
+            self.assertEqual(reason(f"p {{ {atoms} => p(a, b) }}"), "")
+
+    def is_open(self, atoms: str, name: str = "z") -> None:
+        with self.subTest(atoms=atoms):
+            self.assertEqual(reason(f"p {{ {atoms} => p(a, b) }}"), f"variable {name} of rule 1 of p (line 1) is not fixed")
+
+    def test_by_head_nil_or_field(self):
+        for atoms in ("emp", "a != b", "z = nil", "nil = z", "z = a", "b = z", "a -> z", "a -> (nil, a, z)", "b -> (z, z)"):
+            self.is_fixed(atoms)
+
+    def test_by_chains_either_way_and_in_any_order(self):
+        for atoms in (
+            "x = a * y = x * z = y",
+            "z = y * y = x * x = a",
+            "y = z * x = y * a = x",
+            "y = x * z = x * b = y",
+            "x = y * z = y * x = nil",
+        ):
+            self.is_fixed(atoms)
+
+    def test_by_fields_of_fields(self):
+        for atoms in ("a -> y * y -> z", "y -> z * a -> y", "a -> x * x = y * y -> z", "z -> y * x = y * x = z * z = nil", "x = a * x -> z"):
+            self.is_fixed(atoms)
+
+    def test_nowhere_used(self):
+        self.is_open("exists z: emp")
+        self.is_open("exists z: a -> b")
+
+    def test_only_in_an_inequality_or_a_call(self):
+        self.is_open("exists z: z != a")
+        self.is_open("exists z: z != nil * a = b")
+        self.is_open("exists z: a -> b * p(z, a)")
+
+    def test_equal_to_open_ones(self):
+        self.is_open("z = z")
+        self.is_open("z = y * y = z * a = b")
+        self.is_open("z = y * y != a")
+
+    def test_fields_of_an_open_address(self):
+        self.is_open("z -> a")
+        self.is_open("exists z, y: z -> y")
+        self.is_open("exists z, y: z -> y * y -> z")
+        # Its field is fixed, and that does not lead back to the address.
+        self.is_open("exists z, y: z -> y * a -> y")
+        self.is_open("x -> z * x != nil", "x")
+
+    def test_a_contradiction_fixes_nothing(self):
+        self.is_open("exists z: a != a")
+        self.is_open("exists z: a = nil * a != nil * a -> a")
+
+    def test_the_first_of_several(self):
+        self.is_open("exists y, z: a -> x * y != z", "y")
+
+    def test_no_order_and_no_side_matters(self):
+        chance = Random(3)
+        for _ in range(500):
+            arguments = chance.randrange(3)
+            rule = some_rule(chance, arguments, chance.randrange(1, 5))
+            turned = [replace(each, left=each.right, right=each.left) for each in chance.sample(rule.conditions, len(rule.conditions))]
+            other = replace(rule, conditions=tuple(turned), cells=tuple(chance.sample(rule.cells, len(rule.cells))))
+            self.assertEqual(fixed_terms(rule, arguments), fixed_terms(other, arguments))
+
+
+class Pairs(unittest.TestCase):
+    def apart(self, first: str, second: str) -> None:
+        for one, other in ((first, second), (second, first)):
+            with self.subTest(one=one, other=other):
+                self.assertEqual(reason(f"p {{ {one} => p(a, b, c) | {other} => p(a, b, c) }}"), "")
+
+    def together(self, first: str, second: str, example: str) -> None:
+        for one, other in ((first, second), (second, first)):
+            with self.subTest(one=one, other=other):
+                both = f"the conditions of rules 1 and 2 of p (line 1) can both be met, for example by {example}"
+                self.assertEqual(reason(f"p {{ {one} => p(a, b, c) | {other} => p(a, b, c) }}"), both)
+
+    def test_one_against_the_other(self):
+        self.apart("a = nil", "a != nil")
+        self.apart("a = b", "b != a")
+        self.apart("nil = c", "a = b * c != nil")
+
+    def test_cells_do_not_keep_rules_apart(self):
+        self.together("a = nil", "a -> b", "p(nil, 1, 2)")
+        self.together("a -> b", "a -> (b, c)", "p(1, 2, 3)")
+
+    def test_chains(self):
+        self.apart("a = b * b = c", "a != c")
+        self.apart("a = b", "b = c * a != c")
+        self.apart("a = b * c = nil", "b = c * a != nil")
+        self.together("a = b * b = c", "a != nil", "p(1, 1, 1)")
+        self.together("a = b", "b != c", "p(1, 1, 2)")
+        self.together("a != b", "b != c", "p(1, 2, 3)")
+        self.together("a = b", "c = nil", "p(1, 1, nil)")
+
+    def test_chains_by_way_of_bound_variables(self):
+        self.apart("a = x * x = b", "a != b")
+        self.apart("a = x * x = nil", "y = a * y != nil")
+        self.together("a = x * x = b", "y = a * c = y", "p(1, 1, 1)")
+
+    def test_bound_variables_of_one_rule_are_not_those_of_the_other(self):
+        self.together("a -> x * x = nil", "a -> x * x != nil", "p(1, 2, 3)")
+        self.together("a -> x * x = a", "a -> x * x != a", "p(1, 2, 3)")
+
+    def test_a_rule_that_cannot_be_met(self):
+        for atoms in ("a != a", "a = nil * nil != a", "a = b * b = c * c != a", "a -> x * x != x", "x = nil * x != nil"):
+            self.apart(atoms, "emp")
+            self.apart(atoms, atoms)
+
+    def test_a_rule_written_twice(self):
+        self.together("emp", "emp", "p(1, 2, 3)")
+        self.together("a = nil", "a = nil", "p(nil, 1, 2)")
+
+    def test_nil_beside_nil(self):
+        for kind, due in ((EQUAL, (1,)), (UNEQUAL, None)):
+            rule = Rule(0, ("a",), (Condition(kind, NIL, NIL),))
+            self.assertEqual(met_by_both(rule, Rule(0, ("a",)), 1), due)
+
+    def test_no_arguments(self):
+        self.assertRegex(reason("p { emp => p() | emp => p() }"), r"by p\(\)$")
+
+    def test_other_predicates_and_later_pairs(self):
+        self.assertEqual(reason("p { emp => p(a) } ; q { emp => q(a) }"), "")
+        text = "p { a = nil => p(a) } ; q { emp => q() } ; p { a != nil * a = a => p(a) | a != nil => p(a) }"
+        self.assertRegex(reason(text), "^the conditions of rules 3 and 4 of p ")
+
+
+def met(rule: Rule, arguments: tuple[int, ...], most: int) -> bool:
+    """Whether numbers up to `most` for the bound variables meet the conditions, by trying all."""
+
+    def holds(values: tuple[int, ...]) -> bool:
+        pairs = [(each.kind, *(0 if term == NIL else values[term] for term in (each.left, each.right))) for each in rule.conditions]
+        return all((left == right) == (kind == EQUAL) for kind, left, right in pairs)
+
+    return any(holds(arguments + bound) for bound in product(range(most + 1), repeat=len(rule.variables) - len(arguments)))
+
+
+class ByTrying(unittest.TestCase):
+    def test_the_third_sentence(self):
+        """Where there are n variables, numbers up to n are enough, since no more are ever different from one another and from nil."""
+        chance = Random(4)
+        seen = {True: 0, False: 0}
+        for case in range(600):
+            arguments = chance.randrange(3)
+            first, second = (some_rule(chance, arguments, chance.randrange(3)) for _ in range(2))
+            most = len(first.variables) + len(second.variables) - arguments
+            found = met_by_both(first, second, arguments)
+            seen[found is not None] += 1
+            with self.subTest(case=case):
+                if found is None:
+                    for values in product(range(most + 1), repeat=arguments):
+                        self.assertFalse(met(first, values, most) and met(second, values, most), values)
+                else:
+                    self.assertEqual(len(found), arguments)
+                    self.assertTrue(met(first, found, most) and met(second, found, most), found)
+                self.assertEqual(met_by_both(second, first, arguments) is None, found is None)
+                book = Book((Predicate("p", arguments),), (replace(first, cells=()), replace(second, cells=())))
+                if all(set(range(len(rule.variables))) <= fixed_terms(rule, arguments) for rule in book.rules):
+                    self.assertEqual(not_plain(book) == "", found is None)
+        self.assertGreater(min(seen.values()), 100, seen)
