@@ -8,6 +8,7 @@ from workbench.hints import Hints, hints, part_hints
 from workbench.mistake import Mistake
 from workbench.model import Book, Pool, Question
 from workbench.part import Part, part_of
+from workbench.plain import not_plain
 from workbench.pool_bytes import explain_pool
 from workbench.unfolding import Line, read_lines
 
@@ -17,12 +18,13 @@ TABLE_TOO_SHORT = 11
 FITS = "fits"
 DOES_NOT_FIT = "does not fit"
 REFUSED = "refused"
+NO_ANSWER = "no answer"
 
 
 @dataclass(frozen=True)
 class Asked:
-    """Book, pool and question as bytes, which the engine gets, and as they read, or None where the bytes are not well-formed. It is about
-    the whole pool or about some part of it."""
+    """Book, pool and question as bytes, which the library gets, and as they read, or None where the bytes are not well-formed. It is about
+    the whole pool or about some part of it, and for the engine or, about the whole pool alone, for the quick walk."""
 
     book_bytes: bytes
     pool_bytes: bytes
@@ -31,12 +33,14 @@ class Asked:
     pool: Pool | None
     question: Question | None
     some_part: bool = False
+    by_walk: bool = False
 
 
 @dataclass(frozen=True)
 class Answer:
-    """`lines` are there where the pool or a part fits, `hints` where neither does, and `detail` where bytes are refused: the first at
-    fault. `part` is the one that fits, where some part was asked about."""
+    """`lines` are there where the pool or a part fits by the engine, `hints` where neither does, and `detail` where bytes are refused: the
+    first at fault. `part` is the one that fits, where some part was asked about. `not_plain` is there where the walk's no means nothing:
+    why the book is not plain."""
 
     asked: Asked
     reply: library.Reply
@@ -44,11 +48,14 @@ class Answer:
     hints: Hints = Hints()
     detail: str = ""
     part: Part | None = None
+    not_plain: str = ""
 
     @property
     def kind(self) -> str:
         if self.reply.refusal:
             return REFUSED
+        if self.not_plain:
+            return NO_ANSWER
         return FITS if self.reply.verdict else DOES_NOT_FIT
 
 
@@ -59,14 +66,20 @@ def ask(asked: Asked) -> Answer:
     if asked.book is None or asked.pool is None or asked.question is None:
         raise Mistake("the library reads what the workbench could not: they are not of one version")
     if not reply.verdict:
+        reason = not_plain(asked.book) if asked.by_walk else ""
+        if reason:
+            return Answer(asked, reply, not_plain=reason)
         return Answer(asked, reply, hints=(part_hints if asked.some_part else hints)(asked.pool, asked.question))
+    if asked.by_walk:
+        return Answer(asked, reply)
     lines = tuple(read_lines(reply.words, asked.book, asked.pool, asked.question))
     return Answer(asked, reply, lines, part=part_of(reply.part, asked.pool) if asked.some_part else None)
 
 
 def ask_next(answer: Answer) -> Answer | None:
-    """What to try where the whole pool does not fit: the answer about some part of it."""
-    if answer.kind != DOES_NOT_FIT or answer.asked.some_part:
+    """What to try where the whole pool does not fit: the answer about some part of it. It takes a table, for which nobody waits who asked
+    for the walk."""
+    if answer.kind != DOES_NOT_FIT or answer.asked.some_part or answer.asked.by_walk:
         return None
     found = ask(replace(answer.asked, some_part=True))
     # The same table was long enough before. Were there a refusal all the same, the pool has its answer already.
@@ -74,6 +87,9 @@ def ask_next(answer: Answer) -> Answer | None:
 
 
 def _reply(asked: Asked) -> library.Reply:
+    if asked.by_walk:
+        return library.Reply(*library.walk(asked.book_bytes, asked.pool_bytes, asked.question_bytes))
+
     def with_table(lines: int) -> library.Reply:
         return library.decide(asked.book_bytes, asked.pool_bytes, asked.question_bytes, lines, asked.some_part)
 

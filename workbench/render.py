@@ -1,8 +1,9 @@
-"""Answers as text for people. What it says of verdict, part and tree is the engine's; hints are the workbench's own, and it says so."""
+"""Answers as text for people. What it says of verdict, part and tree is the library's; hints and whether a book is plain are the workbench's
+own, and it says so."""
 
 from collections.abc import Iterable
 
-from workbench.asking import DOES_NOT_FIT, FITS, REFUSED, Answer
+from workbench.asking import DOES_NOT_FIT, FITS, NO_ANSWER, REFUSED, Answer
 from workbench.hints import Hints, Place, Unreached
 from workbench.names import Names
 from workbench.refusals import sentence
@@ -12,6 +13,7 @@ from workbench.wording import count
 # Deeper nodes stand no further to the right and have their depth in front.
 MOST_INDENTED = 30
 HINTS_AHEAD = "Hints on where to look. They come from the pool and the question's values alone; the verdict is the engine's."
+WALK_HINTS_AHEAD = "Hints on where to look. They come from the pool and the question's values alone; the verdict is the walk's."
 NO_HINTS = (
     "No hints: every field and every value of the question is nil or names a record, the question's values lead to every record, and",
     "no record is held in two places, apart from records that point to one another.",
@@ -25,6 +27,9 @@ NO_PART_HINTS = (
 )
 NO_FIND = "the question holds without any record, which says nothing about the pool; a shape that needs a record tells more"
 LARGER = "larger parts may fit as well; whether all records do is asked without --part"
+WALK_YES = "The walk gives no unfolding to show or to save. The engine does:"
+WALK_NO = "The walk's no holds for a plain book. By the workbench's own test, which is not proved, this one is. The engine needs no such test:"
+WALK_NO_ANSWER = "The walk's no means nothing for a book that is not plain. By the workbench's own test, which is not proved, this one is not:"
 ORDINALS = ("first", "second", "third", "fourth")
 
 
@@ -52,6 +57,12 @@ def next_text(found: Answer, command: str) -> str:
         return f"The empty part fits: {NO_FIND}.\n"
     rows = ["A part of it fits, as the engine finds:", *_part_rows(found, ["  its unfolding", command])]
     return "".join(row + "\n" for row in rows)
+
+
+def walk_text(answer: Answer, command: str) -> str:
+    """What an answer of the walk is worth, so that nobody takes it for more. The command asks the engine."""
+    rows = {FITS: [WALK_YES], DOES_NOT_FIT: [WALK_NO], NO_ANSWER: [WALK_NO_ANSWER, f"  {answer.not_plain}", "The engine answers:"]}
+    return "".join(row + "\n" for row in [*rows[answer.kind], f"  {command}"])
 
 
 def _part_rows(answer: Answer, *more: list[str]) -> list[str]:
@@ -82,18 +93,21 @@ def short_text(answer: Answer) -> str:
 def sum_text(kinds: list[str], some_part: bool = False, empty: int = 0) -> str:
     """What came of all pools, by kind; kinds of which there is none are left out, except that of a pool that fits. Of so many the part is
     the empty one, which is no find."""
-    fit, not_fit, refused = kinds.count(FITS), kinds.count(DOES_NOT_FIT), kinds.count(REFUSED)
-    not_read = len(kinds) - fit - not_fit - refused
+    fit, not_fit, no_answer, refused = (kinds.count(kind) for kind in (FITS, DOES_NOT_FIT, NO_ANSWER, REFUSED))
+    not_read = len(kinds) - fit - not_fit - no_answer - refused
     if some_part:
         said = [f"{fit} with a part that fits" + f" ({empty} of them with the empty one)" * bool(empty)] + [f"{not_fit} without"] * bool(not_fit)
     else:
         said = [f"{fit} fits" if fit == 1 else f"{fit} fit"]
         said += [f"{not_fit} does not" if not_fit == 1 else f"{not_fit} do not"] * bool(not_fit)
+    said += [f"{no_answer} without an answer"] * bool(no_answer)
     said += [f"{refused} refused"] * bool(refused) + [f"{not_read} not read"] * bool(not_read)
     return f"{count(len(kinds), 'pool')}: {', '.join(said)}"
 
 
 def _tree_rows(answer: Answer) -> list[str]:
+    if answer.asked.by_walk:
+        return []
     names = Names(answer.asked)
     return aligned(_node_cells(node, names) for node in tree(answer.lines))
 
@@ -116,11 +130,15 @@ def aligned(rows: Iterable[list[str]]) -> list[str]:
 
 
 def _hint_rows(answer: Answer) -> list[str]:
+    """None where it is not said that the pool does not fit."""
+    if answer.kind == NO_ANSWER:
+        return []
     some_part = answer.asked.some_part
     if not answer.hints:
         return list(NO_PART_HINTS if some_part else NO_HINTS)
     rows = hint_sentences(answer.hints, Names(answer.asked))
-    return [PART_HINTS_AHEAD if some_part else HINTS_AHEAD] + [f"  {row}" for row in rows]
+    ahead = PART_HINTS_AHEAD if some_part else WALK_HINTS_AHEAD if answer.asked.by_walk else HINTS_AHEAD
+    return [ahead] + [f"  {row}" for row in rows]
 
 
 def hint_sentences(found: Hints, names: Names) -> list[str]:

@@ -3,12 +3,13 @@ form a new number."""
 
 import json
 
-from workbench.asking import Answer
+from workbench.asking import NO_ANSWER, Answer
 from workbench.hints import Hints, Place
 from workbench.mistake import Mistake
 from workbench.model import Book, Question
 from workbench.names import Names
 from workbench.part import Part
+from workbench.plain import not_plain
 from workbench.refusals import sentence
 from workbench.unfolding import Line
 
@@ -16,23 +17,39 @@ FORMAT = 1
 NOT_READ = "not read"
 
 
-def report(book_name: str, book: Book | None, question: Question | None, some_part: bool, results: list[dict]) -> str:
+def report(
+    book_name: str, book: Book | None, question: Question | None, some_part: bool, results: list[dict], by_walk: bool = False
+) -> str:
     asked = None
     if book and question:
         asked = {"predicate": book.predicates[question.predicate].name, "values": list(question.values)}
-    about = "part" if some_part else "whole"
-    whole = {"format": FORMAT, "book": _unicode(book_name), "question": asked, "about": about, "results": results}
+    whole = {
+        "format": FORMAT,
+        "book": _unicode(book_name),
+        "question": asked,
+        "about": "part" if some_part else "whole",
+        "by": "walk" if by_walk else "engine",
+        "plain": _plain(not_plain(book)) if by_walk and book else None,
+        "results": results,
+    }
     return json.dumps(whole, indent=2, ensure_ascii=False) + "\n"
+
+
+def _plain(reason: str) -> dict:
+    return {"holds": not reason, "reason": reason}
 
 
 def result(pool_name: str, answer: Answer, found: Answer | None = None) -> dict:
     """`found` is the answer about some part, where the whole pool does not fit."""
     refusal = answer.reply.refusal
+    message = "\n".join(filter(None, (sentence(refusal), answer.detail))) if refusal else ""
+    if answer.kind == NO_ANSWER:
+        message = f"the walk's no means nothing for a book that is not plain: {answer.not_plain}"
     return {
         "pool": _unicode(pool_name),
         "answer": answer.kind,
         "refusal": refusal,
-        "message": "\n".join(filter(None, (sentence(refusal), answer.detail))) if refusal else "",
+        "message": message,
         "facts": answer.reply.facts,
         "rounds": answer.reply.rounds,
         "part": _part(answer.part) if answer.part else None,

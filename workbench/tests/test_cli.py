@@ -35,6 +35,18 @@ def heed_ctrl_c() -> None:
     signal.signal(signal.SIGINT, signal.SIG_DFL)
 
 
+def run_inside(*arguments: str) -> tuple[int, bytes, str]:
+    """The status, and what was printed to standard output and error, in this process."""
+    out, said = TextIOWrapper(BytesIO()), StringIO()
+    with redirect_stdout(out), redirect_stderr(said):
+        try:
+            status = cli.main(arguments)
+        except SystemExit as end:
+            status = end.code
+    out.flush()
+    return status, out.buffer.getvalue(), said.getvalue()
+
+
 class Outside(unittest.TestCase):
     """In a process of its own."""
 
@@ -140,15 +152,7 @@ class Inside(unittest.TestCase):
         self.addCleanup(folder.cleanup)
         self.folder = Path(folder.name)
 
-    def run_verb(self, *arguments: str) -> tuple[int, bytes, str]:
-        out, said = TextIOWrapper(BytesIO()), StringIO()
-        with redirect_stdout(out), redirect_stderr(said):
-            try:
-                status = cli.main(arguments)
-            except SystemExit as end:
-                status = end.code
-        out.flush()
-        return status, out.buffer.getvalue(), said.getvalue()
+    run_verb = staticmethod(run_inside)
 
     def test_help(self):
         for arguments in (["--help"], ["help"], *([verb, "--help"] for verb in cli.VERBS)):
@@ -325,6 +329,7 @@ class Inside(unittest.TestCase):
             ["draw", "QUESTION", "-o", picture],
             ["draw", "QUESTION", "-o", picture, "--part"],
             ["ask", "QUESTION", "--part"],
+            ["ask", "QUESTION", "--walk"],
         ):
             status, out, _ = self.run_verb(verb[0], str(book), "examples/ring.pool", *verb[1:])
             self.assertEqual((status, out[:10]), (2, b"refusal 1:"))
@@ -479,6 +484,8 @@ class Inside(unittest.TestCase):
                 ("ask", "house", file, pool, question, "--json"),
                 ("ask", "house", pool, data.decode("latin-1")),
                 ("ask", "--part", "house", file, question),
+                ("ask", "--walk", file, pool, question),
+                ("ask", "--walk", "house", file, question),
                 ("check", "house", pool, question, file),
                 ("check", "house", pool, question, file, "--part", data.decode("latin-1")),
                 ("draw", "house", file, question, "-o", target),

@@ -7,8 +7,10 @@ from random import Random
 
 from workbench.book_bytes import decode_book, encode_book
 from workbench.book_text import parse_book
+from workbench.library import ROOT
 from workbench.model import EQUAL, NIL, UNEQUAL, Book, Cell, Condition, Predicate, Rule
 from workbench.plain import fixed_terms, met_by_both, not_plain
+from workbench.sources import read_book
 from workbench.tests.engine_samples import H, L, PLAIN, S
 
 
@@ -32,6 +34,20 @@ class Books(unittest.TestCase):
         self.assertEqual(not_plain(L), both)
         self.assertEqual(not_plain(H), "rule 4 of queue calls segment and has no cell")
         self.assertEqual(not_plain(S), "rule 1 of P calls Q and has no cell")
+
+    def test_examples(self):
+        books = {str(path.relative_to(ROOT / "examples")): path for path in (ROOT / "examples").rglob("*.book") if "mistakes" not in path.parts}
+        plain = [name for name, path in sorted(books.items()) if not not_plain(read_book(str(path))[0])]
+        self.assertEqual(plain, [f"plain/{name}.book" for name in ("dll", "list", "lists", "parents", "segment", "tree")])
+
+    def test_near_misses_miss_one_sentence(self):
+        """Each misses another one, and without the rule named there the rest is plain."""
+        words = []
+        for path in sorted((ROOT / "examples/near-misses").glob("*.book")):
+            book = read_book(str(path))[0]
+            words.append(not_plain(book).split(" of ")[0])
+            self.assertEqual(not_plain(replace(book, rules=book.rules[:-1])), "")
+        self.assertEqual(words, ["the conditions", "rule 3", "variable c"])
 
     def test_the_first_sentence_comes_first(self):
         text = "p { z != a => p(a) | emp => p(a) | %s => p(a) }"

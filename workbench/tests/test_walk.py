@@ -1,0 +1,304 @@
+"""Answers of the quick walk: a yes, a no that holds since the book is plain, a no that means nothing, refusals, and mistakes."""
+
+import json
+import os
+import subprocess
+import sys
+import tempfile
+import unittest
+from collections import Counter
+from dataclasses import replace
+from io import BytesIO
+from pathlib import Path
+from random import Random
+from unittest import mock
+
+from workbench import library
+from workbench.asking import DOES_NOT_FIT, FITS, NO_ANSWER, REFUSED, Answer, ask, ask_next
+from workbench.book_bytes import encode_book
+from workbench.library import ROOT, Reply
+from workbench.model import EQUAL, NIL, UNEQUAL, Book, Call, Cell, Condition, Pool, Predicate, Question, Rule
+from workbench.plain import not_plain
+from workbench.pool_bytes import encode_pool
+from workbench.question_bytes import encode_question
+from workbench.render import answer_text, short_text, sum_text, walk_text
+from workbench.report_json import report, result
+from workbench.tests.engine_samples import CHAIN, FROM_TEN_TO_NIL, FROM_TEN_TO_TWENTY, H, L, PLAIN, TWO
+from workbench.tests.samples import repository_blocks
+from workbench.tests.test_asking import some_book, some_chains, some_pool
+from workbench.tests.test_cli import COMMAND, run_inside
+from workbench.tests.test_render import asked
+
+# This fits, and the walk says no: it never unfolds the rule asked about, which has calls and no cell.
+QUEUE = ("examples/near-misses/no-cell.book", "examples/queue.pool", "queue_and_free(0x10, 0x40)")
+FIT = ("examples/plain/segment.book", "examples/segment.pool", "segment(10, nil)")
+NO_FIT = ("examples/plain/segment.book", "examples/segment.pool", "segment(10, 30)")
+REASON = "rule 3 of queue_and_free (line 6) calls segment and has no cell"
+
+
+def saying(verdict: int):
+    """A walk with this verdict."""
+    return mock.patch.object(library, "walk", return_value=(0, verdict))
+
+
+def walked(book: Book, pool: Pool, question: Question) -> Answer:
+    return ask(replace(asked(book, pool, question), by_walk=True))
+
+
+class Answers(unittest.TestCase):
+    def test_fits_without_lines(self):
+        answer = walked(PLAIN, CHAIN, FROM_TEN_TO_NIL)
+        self.assertEqual((answer.kind, answer.lines, answer.not_plain), (FITS, (), ""))
+        self.assertEqual(answer_text(answer), "fits\n")
+        self.assertEqual(walk_text(answer, "COMMAND"), "The walk gives no unfolding to show or to save. The engine does:\n  COMMAND\n")
+
+    def test_a_yes_for_a_book_that_is_not_plain_is_a_yes(self):
+        with saying(1):
+            self.assertEqual(walked(L, CHAIN, FROM_TEN_TO_NIL).kind, FITS)
+
+    def test_does_not_fit_where_the_book_is_plain(self):
+        answer = walked(PLAIN, TWO, Question(0, (10, 5)))
+        self.assertEqual((answer.kind, answer.not_plain), (DOES_NOT_FIT, ""))
+        self.assertEqual(
+            answer_text(answer),
+            "does not fit\n"
+            "Hints on where to look. They come from the pool and the question's values alone; the verdict is the walk's.\n"
+            "  the question's second value 5 is not nil and names no record\n",
+        )
+        self.assertEqual(
+            walk_text(answer, "COMMAND"),
+            "The walk's no holds for a plain book. By the workbench's own test, which is not proved, this one is. "
+            "The engine needs no such test:\n"
+            "  COMMAND\n",
+        )
+
+    def test_no_answer_where_it_is_not(self):
+        """And no hints: the pool may fit."""
+        answer = walked(L, TWO, Question(0, (10, 5)))
+        self.assertEqual((answer.kind, bool(answer.hints)), (NO_ANSWER, False))
+        self.assertEqual(answer_text(answer), "no answer\n")
+        self.assertEqual(
+            walk_text(answer, "COMMAND"),
+            "The walk's no means nothing for a book that is not plain. By the workbench's own test, which is not proved, this one is not:\n"
+            "  the conditions of rules 1 and 2 of segment (lines 3 and 4) can both be met, for example by segment(1, 1)\n"
+            "The engine answers:\n"
+            "  COMMAND\n",
+        )
+
+    def test_refused(self):
+        whole = replace(asked(PLAIN, TWO, FROM_TEN_TO_TWENTY), book_bytes=encode_book(PLAIN)[:-1], book=None, by_walk=True)
+        self.assertEqual(ask(whole).kind, REFUSED)
+        first, second = answer_text(ask(whole)).splitlines()
+        self.assertRegex(first, "^refusal 1: the book ends too early: ")
+        self.assertRegex(second, "^  byte 24 of the book: ")
+
+    def test_it_takes_no_table(self):
+        with mock.patch.object(library, "decide", side_effect=AssertionError):
+            for book, question in ((PLAIN, FROM_TEN_TO_NIL), (PLAIN, FROM_TEN_TO_TWENTY), (L, FROM_TEN_TO_TWENTY)):
+                self.assertIsNone(ask_next(walked(book, CHAIN, question)))
+
+    def test_rows_and_sums(self):
+        self.assertEqual([short_text(walked(book, TWO, FROM_TEN_TO_TWENTY)) for book in (PLAIN, L)], ["does not fit", "no answer"])
+        self.assertEqual(sum_text([FITS, NO_ANSWER, NO_ANSWER]), "3 pools: 1 fits, 2 without an answer")
+        self.assertEqual(sum_text([NO_ANSWER, REFUSED, "not read"]), "3 pools: 0 fit, 1 without an answer, 1 refused, 1 not read")
+
+
+class Json(unittest.TestCase):
+    def test_three_cases(self):
+        reason = not_plain(L)
+        for book, verdict, answer, message, plain in (
+            (PLAIN, 1, "fits", "", {"holds": True, "reason": ""}),
+            (PLAIN, 0, "does not fit", "", {"holds": True, "reason": ""}),
+            (L, 1, "fits", "", {"holds": False, "reason": reason}),
+            (L, 0, "no answer", f"the walk's no means nothing for a book that is not plain: {reason}", {"holds": False, "reason": reason}),
+        ):
+            with self.subTest(answer=answer, plain=plain), saying(verdict):
+                found = result("two.pool", walked(book, TWO, FROM_TEN_TO_TWENTY))
+                whole = json.loads(report("b", book, FROM_TEN_TO_TWENTY, False, [found], by_walk=True))
+                self.assertEqual((whole["about"], whole["by"], whole["plain"]), ("whole", "walk", plain))
+                self.assertEqual((found["answer"], found["message"], found["refusal"]), (answer, message, 0))
+                self.assertEqual((found["facts"], found["rounds"], found["unfolding"], found["part"]), (0, 0, [], None))
+                self.assertIsNone(found["hints"]["part"])
+                self.assertEqual(list(found), list(result("two.pool", ask(asked(book, TWO, FROM_TEN_TO_TWENTY)))))
+
+    def test_hints_where_it_does_not_fit(self):
+        found = result("two.pool", walked(PLAIN, TWO, Question(0, (10, 5))))
+        self.assertEqual(found["hints"]["outside"], [{"argument": 2, "value": 5}])
+
+    def test_a_book_that_cannot_be_read(self):
+        self.assertIsNone(json.loads(report("b", None, None, False, [], by_walk=True))["plain"])
+
+    def test_refused(self):
+        found = result("p", Answer(replace(asked(L, TWO, FROM_TEN_TO_TWENTY), by_walk=True), Reply(7)))
+        self.assertEqual((found["answer"], found["refusal"]), ("refused", 7))
+
+
+class Command(unittest.TestCase):
+    def setUp(self):
+        before = os.getcwd()
+        os.chdir(ROOT)
+        self.addCleanup(os.chdir, before)
+        folder = tempfile.TemporaryDirectory()
+        self.addCleanup(folder.cleanup)
+        self.folder = Path(folder.name)
+
+    def test_statuses(self):
+        self.assertEqual([run_inside("ask", "--walk", *row)[0] for row in (FIT, NO_FIT)], [0, 1])
+        self.assertEqual([run_inside("ask", *row, "--walk", "--json")[0] for row in (FIT, NO_FIT)], [0, 1])
+        with saying(0):
+            for more in ([], ["--json"]):
+                self.assertEqual(run_inside("ask", "--walk", *QUEUE, *more)[0], 2)
+
+    def test_a_pool_that_fits_and_has_no_answer(self):
+        """The command offered has the answer."""
+        with saying(0):
+            status, out, said = run_inside("ask", "--walk", *QUEUE)
+        self.assertEqual((status, said), (2, ""))
+        first, *_, reason, ahead, command = out.decode().splitlines()
+        self.assertEqual((first, reason, ahead), ("no answer", f"  {REASON}", "The engine answers:"))
+        self.assertEqual(command, f"  ./shapes ask {QUEUE[0]} {QUEUE[1]} '{QUEUE[2]}'")
+        done = subprocess.run(["sh", "-c", command], cwd=ROOT, capture_output=True, check=False, timeout=60)
+        self.assertEqual((done.returncode, done.stdout[:5], done.stderr), (0, b"fits\n", b""))
+
+    def test_json_of_a_pool_that_fits_and_has_no_answer(self):
+        with saying(0):
+            whole = json.loads(run_inside("ask", "--walk", *QUEUE, "--json")[1])
+        self.assertEqual((whole["about"], whole["by"], whole["plain"]), ("whole", "walk", {"holds": False, "reason": REASON}))
+        self.assertEqual([found["answer"] for found in whole["results"]], ["no answer"])
+
+    def test_several_pools(self):
+        pools = ["examples/segment.pool", "examples/circle.pool", "examples/mistakes/same-address.pool"]
+        status, out, said = run_inside("ask", "--walk", FIT[0], *pools, "segment(10, nil)")
+        self.assertEqual((status, "is on line 1 already" in said), (2, True))
+        rows = out.decode().splitlines()
+        self.assertEqual([row.split("   ")[-1].strip() for row in rows[:3]], ["fits", "does not fit", "not read"])
+        self.assertEqual(rows[3], "3 pools: 1 fits, 1 does not, 1 not read")
+        self.assertRegex(rows[4], "^The walk's no holds for a plain book. ")
+        self.assertEqual(rows[5:], [f"  ./shapes ask {FIT[0]} {' '.join(pools)} 'segment(10, nil)'"])
+        status, out, _ = run_inside("ask", "--walk", FIT[0], *pools[:2], "segment(10, nil)", "--json")
+        self.assertEqual((status, [found["answer"] for found in json.loads(out)["results"]]), (1, ["fits", "does not fit"]))
+
+    def test_several_pools_that_fit(self):
+        status, out, _ = run_inside("ask", "--walk", FIT[0], FIT[1], FIT[1], FIT[2])
+        self.assertEqual((status, out.decode().splitlines()[2:]), (0, ["2 pools: 2 fit"]))
+
+    def test_several_pools_without_an_answer(self):
+        """What a no is worth stands there once, and a yes among them is a yes."""
+        with mock.patch.object(library, "walk", side_effect=[(0, 0), (0, 1), (0, 0)]):
+            status, out, _ = run_inside("ask", "--walk", QUEUE[0], *[QUEUE[1]] * 3, QUEUE[2])
+        rows = out.decode().splitlines()
+        self.assertEqual((status, rows[3]), (2, "3 pools: 1 fits, 2 without an answer"))
+        self.assertEqual([row.split("   ")[-1].strip() for row in rows[:3]], ["no answer", "fits", "no answer"])
+        self.assertEqual((rows[5], len(rows)), (f"  {REASON}", 8))
+
+    def test_what_cannot_be_asked_at_once(self):
+        path = self.folder / "unfolding"
+        part = "--walk asks about all records: leave out --part, or leave out --walk to ask the engine about some part"
+        save = "--walk gives no unfolding to save: leave out --save, or leave out --walk to have one from the engine"
+        for options, words in ((["--part"], part), (["--save", str(path)], save), (["--save="], save), (["--part", "--save", str(path)], part)):
+            with self.subTest(options=options):
+                self.assertEqual(run_inside("ask", "--walk", *FIT, *options), (2, b"", f"shapes: {words}\n"))
+                status, out, said = run_inside("ask", "--walk", *FIT, *options, "--json")
+                self.assertEqual((status, said), (2, f"shapes: {words}\n"))
+                self.assertEqual([(found["answer"], found["message"]) for found in json.loads(out)["results"]], [("not read", words)])
+        self.assertFalse(path.exists())
+
+    def test_other_verbs_have_no_walk(self):
+        for verb in (["check", *FIT, FIT[1]], ["draw", *FIT, "-o", str(self.folder / "a.dot")]):
+            self.assertEqual(run_inside(*verb, "--walk")[:2], (2, b""))
+
+    def test_the_command_offered_whatever_the_files_are_called(self):
+        for name in ("plain", "two words", "it's", "--walk", "-"):
+            path = self.folder / name
+            path.write_text("10: 20\n20: nil\n")
+            os.chdir(self.folder)
+            book = str(ROOT / FIT[0])
+            given = mock.Mock(buffer=BytesIO(path.read_bytes()))
+            with self.subTest(name=name), mock.patch.object(sys, "stdin", given):
+                status, out, _ = run_inside("ask", "--walk", "--", book, name, "segment(10, nil)")
+                self.assertEqual(status, 0)
+                os.chdir(ROOT)
+                line = out.decode().splitlines()[-1].replace("./shapes", COMMAND)
+                done = subprocess.run(["sh", "-c", line], cwd=self.folder, input=path.read_bytes(), capture_output=True, check=False, timeout=60)
+                self.assertEqual((done.returncode, done.stdout[:5], done.stderr), (0, b"fits\n", b""))
+        path = self.folder / "new\nline"
+        path.write_text("10: nil\n")
+        self.assertEqual(run_inside("ask", "--walk", FIT[0], str(path), FIT[2])[1].splitlines()[-1], b"  ask the same without --walk")
+
+    def test_refused_bytes(self):
+        pool = self.folder / "pool"
+        pool.write_bytes(bytes.fromhex("02 14000000 00 0A000000 00"))
+        for book in (FIT[0], "house"):
+            status, out, said = run_inside("ask", "--walk", book, str(pool), "segment(10, nil)")
+            self.assertEqual((status, out[:10], out.count(b"\n"), said), (2, b"refusal 7:", 2, ""))
+
+
+def plain_book(chance: Random) -> Book:
+    """Two predicates, each with a case without records and one or two with a cell, which its first condition keeps apart."""
+    predicates = (Predicate("p", 2), Predicate("q", 1))
+    rules = []
+    for head, predicate in enumerate(predicates):
+        first, second = (0, chance.choice((1, NIL)) if head == 0 else NIL), (1, NIL)
+        same, other = Condition(EQUAL, *first), Condition(UNEQUAL, *first)
+        rules.append(Rule(head, tuple("ab"[: predicate.arguments]), (same,)))
+        # Two longer cases are told apart by the second argument.
+        longer = [(other, Condition(kind, *second)) for kind in (EQUAL, UNEQUAL)] if head == 0 and chance.randrange(2) else [(other,)]
+        for conditions in longer:
+            bound = chance.randrange(1, 3)
+            variables = tuple("abcd"[: predicate.arguments + bound])
+            in_fields = [*range(predicate.arguments, len(variables))]
+            terms = [*range(len(variables)), NIL]
+            fields = chance.sample(in_fields + chance.choices(terms, k=2 - bound), 2)
+            calls = []
+            for number in chance.choices((0, 1), k=chance.randrange(3)):
+                calls.append(Call(number, tuple(chance.choices(terms + 2 * in_fields, k=predicates[number].arguments))))
+            rules.append(Rule(head, variables, conditions, (Cell(0, tuple(fields)),), tuple(calls)))
+    return Book(predicates, tuple(rules))
+
+
+class BesideTheEngine(unittest.TestCase):
+    def verdicts(self, book: Book, pool: Pool, question: Question) -> tuple[int, int]:
+        """The walk's and the engine's."""
+        blocks = encode_book(book), encode_pool(pool), encode_question(question)
+        refusal, walked = library.walk(*blocks)
+        engine = library.decide(*blocks, 65_535)
+        self.assertEqual((refusal, engine.refusal), (0, 0))
+        return walked, engine.verdict
+
+    def fitting(self, book: Book, pool: Pool, question: Question) -> Pool | None:
+        """The part that the engine finds, as a pool of its own, since few whole ones fit."""
+        part = ask(asked(book, pool, question, some_part=True)).part
+        return Pool(tuple(record for record in pool.records if record.address in part.records)) if part else None
+
+    def test_plain_books(self):
+        """The verdicts are the same for books that the workbench takes for plain."""
+        chance = Random(11)
+        fits: Counter[int] = Counter()
+        for case in range(1500):
+            book, pool = (plain_book(chance), some_pool(chance)) if case % 3 else (PLAIN, some_chains(chance))
+            question = Question(0, tuple(chance.choices([0, *(record.address for record in pool.records)], k=2)))
+            self.assertEqual(not_plain(book), "")
+            for each in filter(None, (pool, self.fitting(book, pool, question))):
+                with self.subTest(case=case, records=len(each.records)):
+                    walked, engine = self.verdicts(book, each, question)
+                    self.assertEqual(walked, engine)
+                    fits[len(each.records) if engine else -1] += 1
+        self.assertTrue(all(fits[records] > 5 for records in range(-1, 5)), fits)
+
+    def test_its_yes_is_the_engines_for_any_book(self):
+        chance = Random(13)
+        for case in range(600):
+            for book in (some_book(chance), H):
+                with self.subTest(case=case):
+                    walked, engine = self.verdicts(book, some_pool(chance), Question(0, tuple(chance.choices(range(7), k=2))))
+                    self.assertLessEqual(walked, engine)
+
+    def test_its_refusals_are_the_engines(self):
+        for blocks in repository_blocks():
+            with self.subTest(blocks=[block.hex(" ") for block in blocks]):
+                refusal, walked = library.walk(*blocks)
+                engine = library.decide(*blocks, 65_535)
+                # Where the engine's table is too short, the walk has a verdict all the same.
+                if engine.refusal < 10:
+                    self.assertEqual(refusal, engine.refusal)
+                    self.assertLessEqual(walked, engine.verdict)
