@@ -4,7 +4,7 @@
 use crate::domain::Domain;
 use crate::fixpoint::{self, Facts};
 use crate::formats::{self, Problem, Refusal};
-use crate::{certificate, check as conditions, fact, verdict};
+use crate::{certificate, check as conditions, fact, plain, verdict};
 
 #[derive(Clone, Copy, Debug, Default, PartialEq, Eq)]
 pub struct Reply {
@@ -212,6 +212,14 @@ pub fn check_part(
     match formats::read(book, snapshot, question) {
         Ok(problem) => (0, conditions::takes_part(&problem, part, words) as u32),
         Err(refusal) => (refusal.number(), 0),
+    }
+}
+
+/// Whether a book is plain, or its refusal (1 to 4).
+pub fn plain_book(book: &[u8]) -> Result<bool, u32> {
+    match formats::read_rule_set(book) {
+        Ok(rules) => Ok(plain::plain(&rules)),
+        Err(refusal) => Err(refusal.number()),
     }
 }
 

@@ -14,5 +14,6 @@ pub mod fact;
 pub mod fixpoint;
 pub mod formats;
 pub mod naive;
+pub mod plain;
 pub mod tree;
 pub mod verdict;

@@ -2,9 +2,9 @@
 #![allow(dead_code)]
 
 use reference::api::HOUSE;
-use reference::formats::{self, Problem};
+use reference::formats::{self, Kind, Problem, Rule, RuleSet, Term};
 use reference::tree::Tree;
-use std::collections::BTreeSet;
+use std::collections::{BTreeMap, BTreeSet};
 
 pub fn book_h() -> Vec<u8> {
     HOUSE.to_vec()
@@ -73,6 +73,185 @@ pub fn known_books() -> Vec<Vec<u8>> {
     vec![book_l(), book_s(), book_h(), right, halves, any, tree]
 }
 
+pub const NIL: u8 = 255;
+pub const EQUAL: u8 = 0;
+pub const UNEQUAL: u8 = 1;
+
+/// A rule's bytes: conditions as kind and two terms, cells as address and
+/// fields, calls as predicate and arguments.
+pub fn rule(
+    head: u8,
+    bound: u8,
+    pure: &[[u8; 3]],
+    cells: &[(u8, &[u8])],
+    calls: &[(u8, &[u8])],
+) -> Vec<u8> {
+    let mut bytes = vec![head, bound, pure.len() as u8];
+    bytes.extend(pure.iter().flatten());
+    bytes.push(cells.len() as u8);
+    for (address, fields) in cells {
+        bytes.extend([*address, fields.len() as u8]);
+        bytes.extend(*fields);
+    }
+    bytes.push(calls.len() as u8);
+    for (predicate, arguments) in calls {
+        bytes.push(*predicate);
+        bytes.extend(*arguments);
+    }
+    bytes
+}
+
+pub fn book(arities: &[u8], rules: &[Vec<u8>]) -> Vec<u8> {
+    let mut bytes = vec![arities.len() as u8];
+    bytes.extend(arities);
+    bytes.push(rules.len() as u8);
+    bytes.extend(rules.iter().flatten());
+    bytes
+}
+
+/// A rule set's bytes.
+pub fn written(rules: &RuleSet) -> Vec<u8> {
+    let term = |term: &Term| match term {
+        Term::Nil => NIL,
+        Term::Variable(variable) => *variable as u8,
+    };
+    let arities: Vec<u8> = rules.arities.iter().map(|&arity| arity as u8).collect();
+    let mut bytes = book(&arities, &[]);
+    *bytes.last_mut().unwrap() = rules.rules.len() as u8;
+    for rule in &rules.rules {
+        let bound = rule.variables - rules.arities[rule.head];
+        bytes.extend([rule.head as u8, bound as u8, rule.pure.len() as u8]);
+        for pure in &rule.pure {
+            let kind = (pure.kind == Kind::Unequal) as u8;
+            bytes.extend([kind, term(&pure.left), term(&pure.right)]);
+        }
+        bytes.push(rule.cells.len() as u8);
+        for cell in &rule.cells {
+            bytes.extend([cell.address as u8, cell.fields.len() as u8]);
+            bytes.extend(cell.fields.iter().map(term));
+        }
+        bytes.push(rule.calls.len() as u8);
+        for call in &rule.calls {
+            bytes.push(call.predicate as u8);
+            bytes.extend(call.arguments.iter().map(term));
+        }
+    }
+    bytes
+}
+
+/// The book without its rules that have calls but no cell.
+pub fn without_calls_alone(book: &[u8]) -> Vec<u8> {
+    let mut rules = formats::read_rule_set(book).expect("no fault");
+    rules
+        .rules
+        .retain(|rule| !rule.cells.is_empty() || rule.calls.is_empty());
+    written(&rules)
+}
+
+/// Segments whose two rules exclude each other.
+pub fn plain_segment() -> Vec<u8> {
+    book(
+        &[2],
+        &[
+            rule(0, 0, &[[EQUAL, 0, 1]], &[], &[]),
+            rule(0, 1, &[[UNEQUAL, 0, 1]], &[(0, &[2])], &[(0, &[2, 1])]),
+        ],
+    )
+}
+
+/// A list to nil.
+pub fn plain_list() -> Vec<u8> {
+    book(
+        &[1],
+        &[
+            rule(0, 0, &[[EQUAL, 0, NIL]], &[], &[]),
+            rule(0, 1, &[[UNEQUAL, 0, NIL]], &[(0, &[1])], &[(0, &[1])]),
+        ],
+    )
+}
+
+/// A binary tree.
+pub fn plain_tree() -> Vec<u8> {
+    book(
+        &[1],
+        &[
+            rule(0, 0, &[[EQUAL, 0, NIL]], &[], &[]),
+            rule(
+                0,
+                2,
+                &[[UNEQUAL, NIL, 0]],
+                &[(0, &[1, 2])],
+                &[(0, &[1]), (0, &[2])],
+            ),
+        ],
+    )
+}
+
+/// Lists with links both ways: first record, the one before it, last record,
+/// the one after it.
+pub fn plain_double() -> Vec<u8> {
+    book(
+        &[4],
+        &[
+            rule(0, 0, &[[EQUAL, 0, 3], [EQUAL, 1, 2]], &[], &[]),
+            rule(
+                0,
+                1,
+                &[[UNEQUAL, 0, 3]],
+                &[(0, &[4, 1])],
+                &[(0, &[4, 0, 2, 3])],
+            ),
+        ],
+    )
+}
+
+/// A binary tree whose records also hold the one above.
+pub fn plain_parents() -> Vec<u8> {
+    book(
+        &[2],
+        &[
+            rule(0, 0, &[[EQUAL, 0, NIL]], &[], &[]),
+            rule(
+                0,
+                2,
+                &[[UNEQUAL, 0, NIL]],
+                &[(0, &[2, 3, 1])],
+                &[(0, &[2, 0]), (0, &[3, 0])],
+            ),
+        ],
+    )
+}
+
+/// A list of lists: the outer records hold the next one and an inner list.
+pub fn plain_lists() -> Vec<u8> {
+    book(
+        &[1, 1],
+        &[
+            rule(0, 0, &[[EQUAL, 0, NIL]], &[], &[]),
+            rule(
+                0,
+                2,
+                &[[UNEQUAL, 0, NIL]],
+                &[(0, &[1, 2])],
+                &[(0, &[1]), (1, &[2])],
+            ),
+            rule(1, 0, &[[EQUAL, 0, NIL]], &[], &[]),
+            rule(1, 1, &[[UNEQUAL, 0, NIL]], &[(0, &[1])], &[(1, &[1])]),
+        ],
+    )
+}
+
+pub fn plain_books() -> Vec<Vec<u8>> {
+    vec![
+        plain_segment(),
+        plain_list(),
+        plain_tree(),
+        plain_double(),
+        plain_parents(),
+        plain_lists(),
+    ]
+}
+
 pub fn snapshot(records: &[(u32, &[u32])]) -> Vec<u8> {
     let mut bytes = vec![records.len() as u8];
     for (address, fields) in records {
@@ -111,6 +290,12 @@ pub fn engine_promises(words: &[u64]) {
         assert!(called);
     }
 }
+
+/// What grown pools are made of.
+const NUMBERS: [u32; 12] = [0, 1, 3, 4, 7, 9, 12, 20, 21, 30, 40, 50];
+
+/// Records and calls of one node.
+type Step = Option<(BTreeMap<u32, Vec<u32>>, Vec<(usize, Vec<u32>)>)>;
 
 /// A small generator of numbers, the same in every run.
 pub struct Dice(u64);
@@ -206,6 +391,236 @@ impl Dice {
             }
         }
         book
+    }
+
+    /// A book of few rules with many conditions and variables, and nothing else.
+    pub fn conditions(&mut self, most_arguments: usize, most_variables: usize) -> Vec<u8> {
+        let arity = self.between(0, most_arguments);
+        let mut rules = Vec::new();
+        for _ in 0..self.between(2, 3) {
+            let variables = self.between(arity, most_variables);
+            let mut pure = Vec::new();
+            for _ in 0..self.between(0, 8) {
+                let kind = self.pick(&[EQUAL, EQUAL, UNEQUAL]);
+                pure.push([kind, self.term(variables), self.term(variables)]);
+            }
+            rules.push(rule(0, (variables - arity) as u8, &pure, &[], &[]));
+        }
+        book(&[arity as u8], &rules)
+    }
+
+    /// A book made to be plain: the rules of a predicate split its arguments
+    /// among them, bound variables come from fields or equalities, and calls
+    /// have a cell before them. In about every other book something is wrong.
+    pub fn split_book(&mut self) -> Vec<u8> {
+        let known = plain_books();
+        if self.below(8) == 0 {
+            return known[self.below(known.len())].clone();
+        }
+        let predicates = self.between(1, 2);
+        let arities: Vec<u8> = (0..predicates)
+            .map(|_| self.pick(&[0, 1, 1, 1, 2, 2, 2, 3]))
+            .collect();
+        let mut rules = Vec::new();
+        for head in 0..predicates {
+            for split in self.splits(arities[head]) {
+                rules.push(self.split_rule(&arities, head, split));
+            }
+        }
+        let fault = self.below(20);
+        if fault == 0 {
+            // The same rule twice.
+            rules.push(rules[self.below(rules.len())].clone());
+        }
+        let mut set = formats::read_rule_set(&book(&arities, &rules)).expect("no fault");
+        let rule = self.below(set.rules.len());
+        let rule = &mut set.rules[rule];
+        match fault {
+            1 | 2 => rule.pure.truncate(1),
+            3 => rule.pure.clear(),
+            4 | 5 => rule.cells.clear(),
+            6 => rule.cells.truncate(1),
+            7 if rule.variables < 8 => rule.variables += 1,
+            8 => rule.cells.reverse(),
+            9 => rule.pure.reverse(),
+            10 => {
+                if let Some(pure) = rule.pure.last_mut() {
+                    pure.kind = Kind::Unequal;
+                }
+            }
+            _ => {}
+        }
+        written(&set)
+    }
+
+    /// Conditions on the arguments of which no two can be met together.
+    fn splits(&mut self, arity: u8) -> Vec<Vec<[u8; 3]>> {
+        if arity == 0 {
+            return vec![vec![]];
+        }
+        let mut pair = || {
+            let left = self.below(arity as usize) as u8;
+            let right = self.term(arity as usize);
+            [left, if right == left { NIL } else { right }]
+        };
+        let ([a, b], [c, d]) = (pair(), pair());
+        let (same, apart) = ([EQUAL, a, b], [UNEQUAL, a, b]);
+        if self.below(3) == 0 {
+            let (and, but) = ([EQUAL, c, d], [UNEQUAL, c, d]);
+            vec![vec![same], vec![apart, and], vec![apart, but]]
+        } else {
+            vec![vec![same], vec![apart]]
+        }
+    }
+
+    fn split_rule(&mut self, arities: &[u8], head: usize, mut pure: Vec<[u8; 3]>) -> Vec<u8> {
+        let arity = arities[head] as usize;
+        let mut variables = arity;
+        if self.below(5) == 0 {
+            pure.push([EQUAL, variables as u8, self.term(variables)]);
+            variables += 1;
+        }
+        let first = pure.first().is_none_or(|pure| pure[0] == EQUAL);
+        let most = if first { self.pick(&[0, 0, 1]) } else { 2 };
+        let mut cells: Vec<(u8, Vec<u8>)> = Vec::new();
+        for _ in 0..self.between(most / 2, most).min(variables) {
+            let address = self.below(variables) as u8;
+            let mut fields = Vec::new();
+            for _ in 0..self.pick(&[0, 1, 1, 2, 2]) {
+                if variables < 5 && self.below(4) > 0 {
+                    fields.push(variables as u8);
+                    variables += 1;
+                } else {
+                    fields.push(self.term(variables));
+                }
+            }
+            cells.push((address, fields));
+        }
+        if variables > arity && self.below(4) == 0 {
+            pure.push([UNEQUAL, variables as u8 - 1, self.term(variables)]);
+        }
+        let mut calls: Vec<(u8, Vec<u8>)> = Vec::new();
+        let most = if cells.is_empty() { 0 } else { 3 };
+        for _ in 0..self.between(0, most).min(self.below(4)) {
+            let predicate = self.below(arities.len());
+            let arguments = (0..arities[predicate]).map(|_| match self.below(2) {
+                0 if variables > arity => self.between(arity, variables - 1) as u8,
+                _ => self.term(variables),
+            });
+            calls.push((predicate as u8, arguments.collect()));
+        }
+        let cells: Vec<(u8, &[u8])> = cells.iter().map(|(a, f)| (*a, &f[..])).collect();
+        let calls: Vec<(u8, &[u8])> = calls.iter().map(|(p, a)| (*p, &a[..])).collect();
+        let bound = (variables - arity) as u8;
+        rule(head as u8, bound, &pure, &cells, &calls)
+    }
+
+    /// A pool and a question that often fit, by unfolding the book with values
+    /// at random and noting the records that takes. Now and then something is
+    /// changed afterwards.
+    pub fn grown(&mut self, book: &[u8], most: usize) -> (Vec<u8>, Vec<u8>) {
+        let rules = formats::read_rule_set(book).expect("no fault");
+        let predicate = self.below(rules.arities.len());
+        let mut values: Vec<u32> = (0..rules.arities[predicate])
+            .map(|_| self.pick(&NUMBERS))
+            .collect();
+        let mut records: BTreeMap<u32, Vec<u32>> = BTreeMap::new();
+        let mut goals = vec![(predicate, values.clone())];
+        for _ in 0..400 {
+            let Some((predicate, arguments)) = goals.pop() else {
+                break;
+            };
+            let mut busy: BTreeSet<u32> = records.keys().copied().collect();
+            busy.extend(goals.iter().flat_map(|(_, arguments)| arguments));
+            let rule = &rules.rules[self.below(rules.rules.len().max(1))..];
+            let rule = rule.first().filter(|rule| rule.head == predicate);
+            let step = rule.and_then(|rule| self.step(rule, &arguments, busy, most));
+            match step {
+                Some((more, below))
+                    if records.len() + more.len() <= most
+                        && !more.keys().any(|address| records.contains_key(address)) =>
+                {
+                    records.extend(more);
+                    goals.extend(below);
+                }
+                _ => goals.push((predicate, arguments)),
+            }
+        }
+        let some = records.keys().nth(self.below(most + 1)).copied();
+        match (self.below(8), some) {
+            (0, Some(address)) => drop(records.remove(&address)),
+            (1, Some(address)) => {
+                let fields = records.get_mut(&address).unwrap();
+                if !fields.is_empty() {
+                    let field = self.below(fields.len());
+                    fields[field] = self.pick(&NUMBERS);
+                }
+            }
+            (2, _) if !values.is_empty() => {
+                let value = self.below(values.len());
+                values[value] = self.pick(&NUMBERS);
+            }
+            (3, _) if records.len() < most => {
+                let address = self.pick(&NUMBERS[1..]);
+                records.entry(address).or_default();
+            }
+            _ => {}
+        }
+        let records: Vec<(u32, &[u32])> = records.iter().map(|(a, f)| (*a, &f[..])).collect();
+        (snapshot(&records), question(predicate as u8, &values))
+    }
+
+    /// One node at random: its records and what it calls, if all goes well.
+    /// Bound variables are mostly 0 or a number nothing is busy with.
+    fn step(
+        &mut self,
+        rule: &Rule,
+        arguments: &[u32],
+        mut busy: BTreeSet<u32>,
+        most: usize,
+    ) -> Step {
+        let mut values = arguments.to_vec();
+        while values.len() < rule.variables {
+            let mut value = self.pick(&NUMBERS);
+            if self.below(8) > 0 && (busy.len() > most || busy.contains(&value)) {
+                value = 0;
+            }
+            busy.insert(value);
+            values.push(value);
+        }
+        let value = |values: &[u32], term: Term| match term {
+            Term::Nil => 0,
+            Term::Variable(variable) => values[variable],
+        };
+        // Help bound variables to the values they must have.
+        for pure in rule.pure.iter().filter(|pure| pure.kind == Kind::Equal) {
+            for (to, from) in [(pure.left, pure.right), (pure.right, pure.left)] {
+                match to {
+                    Term::Variable(to) if to >= arguments.len() => {
+                        values[to] = value(&values, from);
+                    }
+                    _ => {}
+                }
+            }
+        }
+        for pure in &rule.pure {
+            let equal = value(&values, pure.left) == value(&values, pure.right);
+            if equal != (pure.kind == Kind::Equal) {
+                return None;
+            }
+        }
+        let terms = |terms: &[Term]| terms.iter().map(|&term| value(&values, term)).collect();
+        let mut records = BTreeMap::new();
+        for cell in &rule.cells {
+            let address = values[cell.address];
+            let before = records.insert(address, terms(&cell.fields));
+            if address == 0 || before.is_some() {
+                return None;
+            }
+        }
+        let calls = rule.calls.iter();
+        let calls = calls.map(|call| (call.predicate, terms(&call.arguments)));
+        Some((records, calls.collect()))
     }
 
     /// A few records with values from a small range, so that they link up.
