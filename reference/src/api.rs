@@ -1,10 +1,10 @@
 //! The public calls: engine and check, about the whole pool or some part of it,
-//! the two desk entries, and the bench program.
+//! the walk, the two desk entries, and the bench program.
 
 use crate::domain::Domain;
 use crate::fixpoint::{self, Facts};
 use crate::formats::{self, Problem, Refusal};
-use crate::{certificate, check as conditions, fact, plain, verdict};
+use crate::{certificate, check as conditions, fact, plain, verdict, walk as downwards};
 
 #[derive(Clone, Copy, Debug, Default, PartialEq, Eq)]
 pub struct Reply {
@@ -212,6 +212,28 @@ pub fn check_part(
     match formats::read(book, snapshot, question) {
         Ok(problem) => (0, conditions::takes_part(&problem, part, words) as u32),
         Err(refusal) => (refusal.number(), 0),
+    }
+}
+
+/// The walk's reply.
+#[derive(Clone, Copy, Debug, Default, PartialEq, Eq)]
+pub struct WalkReply {
+    pub refusal: u32,
+    pub verdict: u32,
+}
+
+/// The walk: no memory is lent, so there are refusals 1 to 9 only. Verdict 0
+/// says nothing unless the book is plain.
+pub fn walk(book: &[u8], snapshot: &[u8], question: &[u8]) -> WalkReply {
+    match formats::read(book, snapshot, question) {
+        Ok(problem) => WalkReply {
+            refusal: 0,
+            verdict: downwards::fits(&problem) as u32,
+        },
+        Err(refusal) => WalkReply {
+            refusal: refusal.number(),
+            verdict: 0,
+        },
     }
 }
 

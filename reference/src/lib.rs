@@ -17,3 +17,4 @@ pub mod naive;
 pub mod plain;
 pub mod tree;
 pub mod verdict;
+pub mod walk;
