@@ -11,6 +11,7 @@ use crate::random::Dice;
 use crate::sizes;
 use crate::tally::Tally;
 use crate::unfoldings::{bytes_of, lines_of, words_of, Line};
+use crate::walk;
 use reference::api::{self, Outcome, PartReply, Reply, DESK_BYTES};
 use std::path::PathBuf;
 use std::time::{Duration, Instant};
@@ -130,6 +131,7 @@ impl Comparer {
         let reply = outcome.reply;
         self.desk_decide(input, reply);
         let both = self.lend_both(input, Sizes::OWN, reply, Table::of(&outcome));
+        self.walk(input, reply);
         self.counted();
         let Some(both) = both else {
             return Decided::default();
@@ -212,6 +214,7 @@ impl Comparer {
     pub fn decide_lent(&mut self, input: &Input, sizes: Sizes) -> Option<Reply> {
         let outcome = self.reference(input, sizes)?;
         self.lend_both(input, sizes, outcome.reply, Table::of(&outcome));
+        self.walk(input, outcome.reply);
         self.tally.lent.other_sizes += 1;
         self.counted();
         Some(outcome.reply)
@@ -326,6 +329,22 @@ impl Comparer {
         self.tally.parts.not_for_another += (expected.1 == 0) as u64;
     }
 
+    /// The walk, on an input to which the engine replies so.
+    fn walk(&mut self, input: &Input, reply: Reply) {
+        let manner = self.manner();
+        let before = Instant::now();
+        let walked = lent::walk(input, manner);
+        self.tally.walk.saw(before.elapsed(), input, Sizes::OWN);
+        let expected = walk::Expected::of(input, reply);
+        match walk::judged(input, &expected, &walked) {
+            Ok(yes) => self.tally.walks.saw(&expected, yes),
+            Err(wrong) => {
+                let call = call("shapes_walk", input);
+                self.wrong(call.lent(Sizes::OWN, manner.dirt), &wrong);
+            }
+        }
+    }
+
     /// Dirt of any kind.
     fn manner(&mut self) -> Manner {
         Manner {
@@ -413,6 +432,7 @@ impl Comparer {
     pub fn kept(&mut self, input: &Input, reply: Reply, print: u64) {
         self.desk_decide(input, reply);
         self.lend_both(input, Sizes::OWN, reply, Table::Kept(print));
+        self.walk(input, reply);
         self.counted();
         if reply.facts > 1 {
             let full = Reply {
@@ -435,7 +455,10 @@ impl Comparer {
     /// The same with the input handed over bit by bit.
     pub fn program_in_pieces(&mut self, pieces: &[&[u8]]) {
         if self.program.is_some() {
-            self.program_replies(pieces, api::bench_reply(&pieces.concat()));
+            let bytes = pieces.concat();
+            let reply = api::bench_reply(&bytes);
+            self.walk(&Input::of_program(&bytes), reply);
+            self.program_replies(pieces, reply);
         }
     }
 

@@ -203,6 +203,15 @@ impl Input {
             question: question.to_vec(),
         }
     }
+
+    /// What the bench program answers: without a book, by the house's.
+    pub fn of_program(bytes: &[u8]) -> Input {
+        let mut input = Input::from_bench(bytes);
+        if input.book.is_empty() {
+            input.book = reference::api::HOUSE.to_vec();
+        }
+        input
+    }
 }
 
 pub fn hex(bytes: &[u8]) -> String {

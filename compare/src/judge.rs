@@ -96,7 +96,7 @@ fn is_zero(words: &[u64]) -> bool {
     words.iter().all(|&word| word == 0)
 }
 
-fn says(right: bool, wrong: &str) -> Result<(), String> {
+pub fn says(right: bool, wrong: &str) -> Result<(), String> {
     match right {
         true => Ok(()),
         false => Err(wrong.into()),

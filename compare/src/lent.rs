@@ -1,7 +1,7 @@
 //! The library `shapes`: the engine on lent memory, and the check of an
-//! unfolding that is lent as words, each for the whole pool and for a part. All
-//! that a call may write is dirty before, and there is something around it that
-//! must stay.
+//! unfolding that is lent as words, each for the whole pool and for a part; and
+//! the walk, which is lent no memory. All that a call may write is dirty before,
+//! and there is something around it that must stay.
 
 use crate::input::Input;
 use crate::random::word_at;
@@ -66,6 +66,16 @@ extern "C" {
         words: *const u64,
         words_len: usize,
         taken: *mut u64,
+    ) -> u64;
+
+    fn shapes_walk(
+        book: *const u8,
+        book_len: usize,
+        snapshot: *const u8,
+        snapshot_len: usize,
+        question: *const u8,
+        question_len: usize,
+        verdict: *mut u64,
     ) -> u64;
 }
 
@@ -331,4 +341,29 @@ pub fn check(part: Option<u16>, input: &Input, words: &[u64], manner: Manner) ->
         taken,
         words,
     }
+}
+
+/// All that one call of the walk gave back.
+#[derive(Clone)]
+pub struct Walked {
+    pub refusal: u64,
+    pub verdict: Block,
+    /// Book, snapshot and question after the call.
+    pub input: Input,
+}
+
+pub fn walk(input: &Input, manner: Manner) -> Walked {
+    let input = input.clone();
+    let mut verdict = Block::number(manner);
+    let refusal = walk_on(&input, &mut verdict.lent_mut()[0]);
+    Walked {
+        refusal,
+        verdict,
+        input,
+    }
+}
+
+/// The refusal. The verdict goes to the number.
+pub fn walk_on(input: &Input, verdict: &mut u64) -> u64 {
+    call!(shapes_walk, input, verdict)
 }

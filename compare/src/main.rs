@@ -26,6 +26,7 @@ mod small;
 mod strangers;
 mod tally;
 mod unfoldings;
+mod walk;
 
 use compare::{Comparer, Limit};
 use std::path::{Path, PathBuf};

@@ -1,8 +1,9 @@
 //! What the inputs were, for a reader who wants to know what was tried.
 
 use crate::differences::call;
-use crate::input::Input;
+use crate::input::{Input, MOST_RECORDS};
 use crate::lent::Sizes;
+use crate::walk::Expected;
 use reference::api::Reply;
 use std::time::Duration;
 
@@ -18,7 +19,9 @@ pub struct Tally {
     pub passed_over: u64,
     pub lent: Lent,
     pub parts: Parts,
+    pub walks: Walks,
     pub proved: Slowest,
+    pub walk: Slowest,
     pub reference: Slowest,
 }
 
@@ -89,6 +92,11 @@ pub struct Parts {
     beyond: u64,
 }
 
+fn list(kinds: &[(&str, u64)]) -> String {
+    let kinds = kinds.iter().map(|(kind, count)| format!("{kind} {count}"));
+    kinds.collect::<Vec<_>>().join(", ")
+}
+
 /// So many fitting parts are many.
 const MANY_PARTS: usize = 100;
 
@@ -152,10 +160,6 @@ impl Parts {
     }
 
     fn print(&self) {
-        let list = |kinds: &[(&str, u64)]| {
-            let kinds = kinds.iter().map(|(kind, count)| format!("{kind} {count}"));
-            kinds.collect::<Vec<_>>().join(", ")
-        };
         println!(
             "some part, of pools with records: {}",
             list(&self.asked_kinds())
@@ -171,6 +175,93 @@ impl Parts {
         );
     }
 }
+
+/// Walks that gave what they should.
+#[derive(Default)]
+pub struct Walks {
+    /// By the refusal, from 1.
+    refused: [u64; 9],
+    plain_yes: u64,
+    plain_no: u64,
+    /// All records there may be, by a plain book.
+    full_pool: u64,
+    /// A yes by a plain book, where the engine has none for want of lines.
+    table_full: u64,
+    other_yes: u64,
+    /// Not plain: a no where the engine has a yes, and any other no.
+    other_no: u64,
+    other_neither: u64,
+    /// The pool fits, and the book keeps two of the three sentences.
+    nearly: [u64; 3],
+}
+
+impl Walks {
+    pub fn saw(&mut self, expected: &Expected, yes: bool) {
+        let refusal = expected.refusal() as usize;
+        if refusal > 0 {
+            self.refused[refusal - 1] += 1;
+            return;
+        }
+        let fits = expected.engine == Some(true);
+        match (expected.plain, yes) {
+            (true, true) => {
+                self.plain_yes += 1;
+                self.full_pool += (expected.records() == MOST_RECORDS) as u64;
+                self.table_full += expected.engine.is_none() as u64;
+            }
+            (true, false) => self.plain_no += 1,
+            (false, true) => self.other_yes += 1,
+            (false, false) if fits => self.other_no += 1,
+            (false, false) => self.other_neither += 1,
+        }
+        if fits && !expected.plain {
+            match expected.sentences() {
+                Some([false, true, true]) => self.nearly[0] += 1,
+                Some([true, false, true]) => self.nearly[1] += 1,
+                Some([true, true, false]) => self.nearly[2] += 1,
+                _ => {}
+            }
+        }
+    }
+
+    fn kinds(&self) -> [(&'static str, u64); 9] {
+        [
+            ("plain and yes", self.plain_yes),
+            ("plain and no", self.plain_no),
+            ("plain and yes with 16 records", self.full_pool),
+            ("plain and yes with the table full", self.table_full),
+            ("not plain and yes", self.other_yes),
+            ("not plain and no where the engine says yes", self.other_no),
+            ("not plain for calls without a cell", self.nearly[0]),
+            ("for a variable that is not fixed", self.nearly[1]),
+            ("for rules that do not exclude each other", self.nearly[2]),
+        ]
+    }
+
+    fn refusals(&self) -> impl Iterator<Item = (&'static str, u64)> {
+        REFUSALS.into_iter().zip(self.refused)
+    }
+
+    fn print(&self) {
+        println!("walk: {}", list(&self.kinds()));
+        println!(
+            "walk refused, 1 to 9: {:?}; not plain and no otherwise {}",
+            self.refused, self.other_neither
+        );
+    }
+}
+
+const REFUSALS: [&str; 9] = [
+    "the walk's refusal 1",
+    "the walk's refusal 2",
+    "the walk's refusal 3",
+    "the walk's refusal 4",
+    "the walk's refusal 5",
+    "the walk's refusal 6",
+    "the walk's refusal 7",
+    "the walk's refusal 8",
+    "the walk's refusal 9",
+];
 
 /// The longest answer, and to what.
 #[derive(Default)]
@@ -203,7 +294,9 @@ impl Tally {
             .parts
             .asked_kinds()
             .into_iter()
-            .chain(self.parts.checked_kinds());
+            .chain(self.parts.checked_kinds())
+            .chain(self.walks.kinds())
+            .chain(self.walks.refusals());
         let few = kinds.filter(|&(_, count)| count < enough);
         few.map(|(kind, _)| kind).collect()
     }
@@ -224,7 +317,9 @@ impl Tally {
         );
         self.lent.print();
         self.parts.print();
+        self.walks.print();
         self.proved.print("proved");
+        self.walk.print("walk");
         self.reference.print("reference");
     }
 }
