@@ -264,6 +264,93 @@ pub fn wide() -> Book {
     Book::new(&[2], rules)
 }
 
+/// The segment whose second rule asks for ends that differ.
+pub fn plain_segment() -> Book {
+    let mut book = segment();
+    book.rules[1] = book.rules[1].clone().unequal(0, 1);
+    book
+}
+
+/// A list to nil. Here and below, a rule for nil and one for the rest.
+pub fn plain_list() -> Book {
+    let rules = vec![
+        Rule::new(0, 0).equal(0, NIL),
+        Rule::new(0, 1).unequal(0, NIL).cell(0, &[1]).call(0, &[1]),
+    ];
+    Book::new(&[1], rules)
+}
+
+pub fn plain_tree() -> Book {
+    let mut book = tree();
+    book.rules[1] = book.rules[1].clone().unequal(NIL, 0);
+    book
+}
+
+/// A binary tree whose records also have the one above.
+pub fn tree_with_parents() -> Book {
+    let rules = vec![
+        Rule::new(0, 0).equal(NIL, 0),
+        Rule::new(0, 2)
+            .unequal(0, NIL)
+            .cell(0, &[2, 3, 1])
+            .call(0, &[2, 0])
+            .call(0, &[3, 0]),
+    ];
+    Book::new(&[2], rules)
+}
+
+/// A list of records that have the next one and a list of their own.
+pub fn lists_of_lists() -> Book {
+    let rules = vec![
+        Rule::new(0, 0).equal(0, NIL),
+        Rule::new(0, 2)
+            .unequal(0, NIL)
+            .cell(0, &[1, 2])
+            .call(1, &[2])
+            .call(0, &[1]),
+        Rule::new(1, 0).equal(0, NIL),
+        Rule::new(1, 1).unequal(0, NIL).cell(0, &[1]).call(1, &[1]),
+    ];
+    Book::new(&[1, 1], rules)
+}
+
+/// Doubly linked, with a value in each record: more facts than the desk has
+/// lines for.
+pub fn valued() -> Book {
+    let mut book = doubly_linked();
+    let rule = Rule::new(0, 2).unequal(3, 0).cell(0, &[4, 1, 5]);
+    book.rules[1] = rule.call(0, &[4, 0, 2, 3]);
+    book
+}
+
+/// Two records for each rule, the second one first; a further name for the
+/// second.
+pub fn pairs() -> Book {
+    let rules = vec![
+        Rule::new(0, 0).equal(0, NIL),
+        Rule::new(0, 3)
+            .equal(3, 1)
+            .unequal(0, NIL)
+            .cell(3, &[2])
+            .cell(0, &[1])
+            .call(0, &[2]),
+    ];
+    Book::new(&[1], rules)
+}
+
+/// Plain books, beside the doubly linked list.
+pub fn plain() -> Vec<Book> {
+    vec![
+        plain_segment(),
+        plain_list(),
+        plain_tree(),
+        tree_with_parents(),
+        lists_of_lists(),
+        valued(),
+        pairs(),
+    ]
+}
+
 /// All books that are small enough for every small pool.
 pub fn small() -> Vec<Book> {
     vec![

@@ -8,10 +8,12 @@ use crate::grow;
 use crate::hostile;
 use crate::input::{Book, Heap, Input, Query, MOST_RECORDS};
 use crate::mutate;
+use crate::plain;
 use crate::random::Dice;
 use crate::shapes::{self, Shape};
 use crate::sizes;
 use crate::small;
+use crate::split;
 use crate::strangers;
 use crate::unfoldings::{self, Line};
 use reference::domain::Domain;
@@ -59,7 +61,7 @@ const FIXED: [Pool; 6] = [
 ];
 
 /// Those that may be repeated with other numbers.
-const RANDOM: [Pool; 6] = [
+const RANDOM: [Pool; 8] = [
     Pool {
         name: "usual shapes",
         program_share: 20,
@@ -89,6 +91,16 @@ const RANDOM: [Pool; 6] = [
         name: "parts of pools",
         program_share: 150,
         run: parts_of_pools,
+    },
+    Pool {
+        name: "plain shapes",
+        program_share: 150,
+        run: plain::run,
+    },
+    Pool {
+        name: "small plain books",
+        program_share: 150,
+        run: split::run,
     },
 ];
 
@@ -290,7 +302,12 @@ fn near_misses(comparer: &mut Comparer, dice: &mut Dice) {
 const PART_FACTS: usize = 150;
 
 /// A fact of the table, as a question to the pool of its records alone.
-fn fitting_part(dice: &mut Dice, book: &Book, heap: &Heap, query: &Query) -> Option<(Heap, Query)> {
+pub fn fitting_part(
+    dice: &mut Dice,
+    book: &Book,
+    heap: &Heap,
+    query: &Query,
+) -> Option<(Heap, Query)> {
     let input = Input::new(book, heap, query);
     let problem = formats::read(&input.book, &input.snapshot, &input.question).ok()?;
     let domain = Domain::of(&problem);

@@ -4,6 +4,7 @@ use crate::books;
 use crate::input::{Book, Heap, Query, Record, MOST_FIELDS};
 use crate::random::Dice;
 
+#[derive(Clone)]
 pub struct Shape {
     pub book: Book,
     pub heap: Heap,
@@ -49,7 +50,7 @@ pub fn places(dice: &mut Dice, count: usize) -> Vec<u32> {
     places
 }
 
-fn record(address: u32, fields: &[u32]) -> Record {
+pub fn record(address: u32, fields: &[u32]) -> Record {
     Record {
         address,
         fields: fields.to_vec(),
@@ -57,13 +58,13 @@ fn record(address: u32, fields: &[u32]) -> Record {
 }
 
 /// Records of one field at these places, the last one pointing to `end`.
-fn chained(places: &[u32], end: u32) -> Vec<Record> {
+pub fn chained(places: &[u32], end: u32) -> Vec<Record> {
     let next = places.iter().skip(1).chain([&end]);
     let records = places.iter().zip(next);
     records.map(|(&at, &next)| record(at, &[next])).collect()
 }
 
-fn first(places: &[u32], end: u32) -> u32 {
+pub fn first(places: &[u32], end: u32) -> u32 {
     places.first().copied().unwrap_or(end)
 }
 
@@ -116,7 +117,7 @@ fn lasso(dice: &mut Dice, size: usize) -> Shape {
 }
 
 /// A binary tree at these places; the first is the root.
-fn branched(dice: &mut Dice, places: &[u32]) -> Vec<Record> {
+pub fn branched(dice: &mut Dice, places: &[u32]) -> Vec<Record> {
     let mut records: Vec<Record> = Vec::new();
     for &place in places {
         if !records.is_empty() {
@@ -147,7 +148,7 @@ pub fn tree(dice: &mut Dice, size: usize) -> Shape {
 }
 
 /// Each record has the next and the one before.
-fn linked_both_ways(places: &[u32], before: u32, after: u32) -> Vec<Record> {
+pub fn linked_both_ways(places: &[u32], before: u32, after: u32) -> Vec<Record> {
     let next = places.iter().skip(1).chain([&after]);
     let back = [&before].into_iter().chain(places);
     let records = places.iter().zip(next).zip(back);

@@ -21,7 +21,7 @@ const ALL_QUESTIONS: usize = 2;
 const SOME_QUESTIONS: usize = 25;
 
 pub fn run(comparer: &mut Comparer, dice: &mut Dice) {
-    for book in books::small() {
+    for book in [books::small(), books::plain()].concat() {
         for records in 0..=3 {
             every_heap(comparer, dice, &book, records, 1);
         }

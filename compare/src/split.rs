@@ -1,0 +1,160 @@
+//! Random small books, nearly all of them plain: the rules of a predicate share
+//! out its arguments by their conditions, each variable comes from what is
+//! fixed before it, and there are no calls without a cell.
+
+use crate::compare::Comparer;
+use crate::generate;
+use crate::grow;
+use crate::input::*;
+use crate::plain;
+use crate::pools;
+use crate::random::Dice;
+use crate::shapes::Shape;
+
+pub fn run(comparer: &mut Comparer, dice: &mut Dice) {
+    for _ in 0..6_000 {
+        if !comparer.takes_turn() {
+            continue;
+        }
+        let book = book(dice);
+        let records = match dice.chance(80) {
+            true => dice.below(6),
+            false => dice.below(MOST_RECORDS + 1),
+        };
+        let (heap, query) = match dice.chance(90) {
+            true => grow::grow(dice, &book, records),
+            false => random_pool(dice, &book, records),
+        };
+        let fitting = pools::fitting_part(dice, &book, &heap, &query);
+        let shape = Shape { book, heap, query };
+        comparer.decide(&Input::new(&shape.book, &shape.heap, &shape.query));
+        plain::around(comparer, dice, &shape);
+        if let Some((heap, query)) = fitting {
+            comparer.decide_known(&Input::new(&shape.book, &heap, &query), true);
+        }
+    }
+}
+
+fn random_pool(dice: &mut Dice, book: &Book, records: usize) -> (Heap, Query) {
+    let heap = generate::heap(dice, records, &generate::field_weights(book));
+    let query = generate::query(dice, book, &heap);
+    (heap, query)
+}
+
+fn book(dice: &mut Dice) -> Book {
+    let predicates = dice.between(1, 3);
+    let arity = |dice: &mut Dice| dice.weighted(&[5, 45, 35, 10, 5]) as u8;
+    let arities: Vec<u8> = (0..predicates).map(|_| arity(dice)).collect();
+    let mut rules = Vec::new();
+    for head in 0..predicates {
+        for pures in shares(dice, arities[head] as usize) {
+            rules.push(rule(dice, &arities, head, pures));
+        }
+    }
+    dice.shuffle(&mut rules);
+    Book { arities, rules }
+}
+
+/// Conditions of which exactly one is met, whatever the arguments: a condition
+/// and its opposite, and perhaps another one beside the opposite.
+fn shares(dice: &mut Dice, arity: usize) -> Vec<Vec<[u8; 3]>> {
+    if arity == 0 {
+        return vec![Vec::new()];
+    }
+    let opposite = |[kind, left, right]: [u8; 3]| [1 - kind, left, right];
+    let (first, second) = (condition(dice, arity), condition(dice, arity));
+    let (not_first, not_second) = (opposite(first), opposite(second));
+    match dice.chance(40) {
+        true => vec![
+            vec![first],
+            vec![not_first, second],
+            vec![not_first, not_second],
+        ],
+        false => vec![vec![first], vec![not_first]],
+    }
+}
+
+/// That an argument is nil or another argument, either way round.
+fn condition(dice: &mut Dice, arity: usize) -> [u8; 3] {
+    let left = dice.below(arity) as u8;
+    let right = match dice.below(arity) as u8 {
+        right if right != left => right,
+        _ => NIL,
+    };
+    match dice.chance(50) {
+        true => [0, left, right],
+        false => [0, right, left],
+    }
+}
+
+fn rule(dice: &mut Dice, arities: &[u8], head: usize, pures: Vec<[u8; 3]>) -> Rule {
+    let ends = pures.first().is_none_or(|pure| pure[0] == 0);
+    let mut variables = arities[head];
+    let mut rule = Rule::new(head as u8, 0);
+    rule.pures = pures;
+    let cells = match ends {
+        true => dice.weighted(&[75, 25]),
+        false => dice.weighted(&[5, 70, 20, 5]),
+    };
+    for _ in 0..cells {
+        let other = |variable: &u8| !rule.cells.iter().any(|cell| cell.0 == *variable);
+        let addresses: Vec<u8> = (0..variables).filter(other).collect();
+        if addresses.is_empty() {
+            break;
+        }
+        let address = dice.pick(&addresses);
+        let fields = dice.weighted(&[4, 45, 36, 10, 5]);
+        let fields = (0..fields).map(|_| next(dice, &mut variables)).collect();
+        rule.cells.push((address, fields));
+    }
+    if dice.chance(20) && variables < MOST_VARIABLES as u8 {
+        rule.pures.push([0, variables, term(dice, variables)]);
+        variables += 1;
+    }
+    if dice.chance(20) {
+        let kind = dice.chance(80) as u8;
+        let pure = [kind, term(dice, variables), term(dice, variables)];
+        rule.pures.push(pure);
+    }
+    rule.bound = variables - arities[head];
+    if !rule.cells.is_empty() {
+        rule.calls = calls(dice, arities, arities[head], variables);
+    }
+    // What fixes a variable may stand anywhere.
+    dice.shuffle(&mut rule.cells);
+    dice.shuffle(&mut rule.pures);
+    rule
+}
+
+/// A new variable, mostly.
+fn next(dice: &mut Dice, variables: &mut u8) -> u8 {
+    if *variables == MOST_VARIABLES as u8 || dice.chance(25) {
+        return term(dice, *variables);
+    }
+    *variables += 1;
+    *variables - 1
+}
+
+fn term(dice: &mut Dice, variables: u8) -> u8 {
+    match variables {
+        0 => NIL,
+        _ if dice.chance(15) => NIL,
+        _ => dice.below(variables as usize) as u8,
+    }
+}
+
+/// Bound variables are called with first, each once.
+fn calls(dice: &mut Dice, arities: &[u8], arity: u8, variables: u8) -> Vec<(u8, Vec<u8>)> {
+    let mut bound: Vec<u8> = (arity..variables).collect();
+    let mut argument = |dice: &mut Dice| match bound.pop() {
+        Some(variable) if dice.chance(85) => variable,
+        _ => term(dice, variables),
+    };
+    let mut calls = Vec::new();
+    for _ in 0..dice.weighted(&[15, 45, 28, 12]) {
+        let predicate = dice.below(arities.len());
+        let arguments = (0..arities[predicate]).map(|_| argument(dice)).collect();
+        calls.push((predicate as u8, arguments));
+    }
+    calls
+}
