@@ -7,6 +7,7 @@ use crate::judge::{self, Expected, Table};
 use crate::lent::{self, Manner, Sizes, AROUND};
 use crate::parts;
 use crate::unfoldings::words_of;
+use crate::walk;
 use reference::api;
 use std::str::FromStr;
 
@@ -71,6 +72,23 @@ fn decide(input: &Input, sizes: Sizes, manner: Manner) {
         manner,
         Expected::some_part(reply, table, &parts),
     );
+    walk(input, &walk::Expected::of(input, reply), manner);
+}
+
+fn walk(input: &Input, expected: &walk::Expected, manner: Manner) {
+    let walked = lent::walk(input, manner);
+    println!("shapes_walk");
+    println!(
+        "  reference refusal {}, plain {}, engine {:?}, walk {:?}",
+        expected.refusal(),
+        expected.plain,
+        expected.engine,
+        expected.answer()
+    );
+    match walk::judged(input, expected, &walked) {
+        Ok(yes) => println!("  proved    right, with verdict {}", yes as u32),
+        Err(wrong) => println!("  wrong     {wrong}"),
+    }
 }
 
 fn lend(input: &Input, sizes: Sizes, manner: Manner, expected: Expected) {

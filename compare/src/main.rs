@@ -30,6 +30,7 @@ mod strangers;
 mod tally;
 mod unfoldings;
 mod walk;
+mod walk_test;
 
 use compare::{Comparer, Limit};
 use std::path::{Path, PathBuf};

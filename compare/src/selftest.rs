@@ -7,9 +7,10 @@ use crate::judge::{self, Expected, Table};
 use crate::lent::{self, About, Answer, Block, Checked, Manner, Sizes, AROUND};
 use crate::parts;
 use crate::unfoldings::{lines_of_words, with_copies, Line};
+use crate::walk_test;
 use reference::api::{self, Memory};
 
-const MANNER: Manner = Manner {
+pub const MANNER: Manner = Manner {
     around: AROUND,
     dirt: u64::MAX,
 };
@@ -407,10 +408,11 @@ pub fn run() -> bool {
     for (way, part, name, alter) in CHECK_ALTERED {
         missed.extend(check_missed(&answers, way, part, name, alter));
     }
+    missed.extend(walk_test::missed());
     for name in &missed {
         println!("self-test: not told apart: {name}");
     }
-    let altered = ALTERED.len() + PART_ALTERED.len() + CHECK_ALTERED.len();
+    let altered = ALTERED.len() + PART_ALTERED.len() + CHECK_ALTERED.len() + walk_test::COUNT;
     println!(
         "self-test: {altered} altered answers, {} mistakes",
         missed.len()

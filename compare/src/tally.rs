@@ -185,8 +185,8 @@ pub struct Walks {
     plain_no: u64,
     /// All records there may be, by a plain book.
     full_pool: u64,
-    /// A yes by a plain book, where the engine has none for want of lines.
-    table_full: u64,
+    /// A yes by a plain book, where the engine has no room to say so.
+    unknown: u64,
     other_yes: u64,
     /// Not plain: a no where the engine has a yes, and any other no.
     other_no: u64,
@@ -207,7 +207,7 @@ impl Walks {
             (true, true) => {
                 self.plain_yes += 1;
                 self.full_pool += (expected.records() == MOST_RECORDS) as u64;
-                self.table_full += expected.engine.is_none() as u64;
+                self.unknown += expected.engine.is_none() as u64;
             }
             (true, false) => self.plain_no += 1,
             (false, true) => self.other_yes += 1,
@@ -229,7 +229,7 @@ impl Walks {
             ("plain and yes", self.plain_yes),
             ("plain and no", self.plain_no),
             ("plain and yes with 16 records", self.full_pool),
-            ("plain and yes with the table full", self.table_full),
+            ("plain and yes where the engine refuses", self.unknown),
             ("not plain and yes", self.other_yes),
             ("not plain and no where the engine says yes", self.other_no),
             ("not plain for calls without a cell", self.nearly[0]),
