@@ -9,13 +9,14 @@ use crate::input::Input;
 use crate::lent::{self, About, Sizes};
 use crate::random::Dice;
 use crate::shapes::{self, Shape};
+use crate::walk_bench;
 use reference::api::{self, Reply};
 use std::io;
 use std::path::Path;
 use std::time::{Duration, Instant};
 
 /// A pool is run again and again for about this long, but at least once.
-const TIME_EACH: Duration = Duration::from_millis(400);
+pub const TIME_EACH: Duration = Duration::from_millis(400);
 
 /// Hostile inputs are to be answered within this.
 const HOSTILE_LIMIT: Duration = Duration::from_secs(1);
@@ -72,7 +73,7 @@ pub fn measured_proved(input: &Input) -> u64 {
 /// The library `shapes`, on memory that its caller makes: to make it is not
 /// counted.
 #[inline(never)]
-fn measured_lent(input: &Input, table: &mut [u64], space: &mut [u64]) -> u64 {
+pub fn measured_lent(input: &Input, table: &mut [u64], space: &mut [u64]) -> u64 {
     lent_once(About::Whole, input, table, space)
 }
 
@@ -122,8 +123,10 @@ pub fn run(names: &[&str]) -> io::Result<()> {
         looked.as_secs_f64() * 1e3
     );
     println!();
-    println!("| hostile input | reply | facts | rounds | proved ms | |");
-    println!("|-|-|-|-|-|-|");
+    walk_bench::run(asked);
+    println!();
+    println!("| hostile input | reply | facts | rounds | proved ms | walk ms | |");
+    println!("|-|-|-|-|-|-|-|");
     for hostile in hostile::kept()?
         .iter()
         .filter(|hostile| asked(&hostile.name))
@@ -237,7 +240,7 @@ fn fastest(input: &Input) -> (Duration, Duration) {
     }
 }
 
-fn time(call: impl FnOnce() -> u64) -> Duration {
+pub fn time(call: impl FnOnce() -> u64) -> Duration {
     let start = Instant::now();
     std::hint::black_box(call());
     start.elapsed()
@@ -248,28 +251,31 @@ fn hostile_row(hostile: &Hostile) {
     let start = Instant::now();
     let answer = measured_proved(&hostile.input);
     let taken = start.elapsed();
+    let walked = time(|| walk_bench::measured_walk(&hostile.input));
     let mut notes = Vec::new();
     if answer != number(reply) {
         notes.push(format!("WRONG: {}", number_line(answer)));
     }
-    if taken > HOSTILE_LIMIT {
+    if taken.max(walked) > HOSTILE_LIMIT {
         notes.push("over a second".into());
     }
     println!(
-        "| {} | {} {} | {} | {} | {:.1} | {} |",
+        "| {} | {} {} | {} | {} | {:.1} | {:.2} | {} |",
         hostile.name,
         reply.refusal,
         reply.verdict,
         reply.facts,
         reply.rounds,
         taken.as_secs_f64() * 1e3,
+        walked.as_secs_f64() * 1e3,
         notes.join(", ")
     );
 }
 
 /// One call on a named pool, for instruction counts.
 pub fn once(name: &str, which: &str) -> Option<u64> {
-    let (_, input) = pools().into_iter().find(|(pool, _)| pool == name)?;
+    let mut pools = pools().into_iter().chain(walk_bench::pools());
+    let (_, input) = pools.find(|(pool, _)| pool == name)?;
     let Sizes { lines, words } = Sizes::OWN;
     let (mut table, mut space) = (vec![0; lines], vec![0; words]);
     match which {
@@ -277,6 +283,8 @@ pub fn once(name: &str, which: &str) -> Option<u64> {
         "lent" => Some(measured_lent(&input, &mut table, &mut space)),
         "part" => Some(measured_part(&input, &mut table, &mut space)),
         "reference" => Some(measured_reference(&input)),
+        "walk" => Some(walk_bench::measured_walk(&input)),
+        "reference_walk" => Some(walk_bench::measured_reference_walk(&input)),
         _ => None,
     }
 }

@@ -25,6 +25,8 @@ pub fn made() -> Vec<(&'static str, Input)> {
         ("largest-book", largest_book()),
         ("found-with-no-record", found_with_no_record()),
         ("found-with-16-records", found_with_16_records()),
+        ("plain-tree-of-three", tree_of_three()),
+        ("plain-ladder", ladder()),
     ]
 }
 
@@ -340,4 +342,39 @@ fn found_with_16_records() -> Input {
         ),
         "00020c0000000a000000",
     ])
+}
+
+/// A record and three below it, by a plain book. Before the two rules for that
+/// there are others that can never be met: their values go along equalities that
+/// stand in the wrong order, and only the last condition fails.
+fn three_below(below: impl Fn(u32) -> [u32; 3]) -> Input {
+    let mut never = Rule::new(0, 7);
+    for variable in (0..7).rev() {
+        never = never.equal(variable + 1, variable);
+    }
+    let step = Rule::new(0, 3).unequal(0, NIL).cell(0, &[1, 2, 3]);
+    let mut rules = vec![never.unequal(7, 0); MOST_RULES - 2];
+    rules.push(Rule::new(0, 0).equal(0, NIL));
+    rules.push(step.call(0, &[1]).call(0, &[2]).call(0, &[3]));
+    let mut heap = Heap::default();
+    for address in 1..=MOST_RECORDS as u32 {
+        heap = heap.with(address, &below(address).map(up_to_the_last));
+    }
+    Input::new(&Book::new(&[1], rules), &heap, &Query::new(0, &[1]))
+}
+
+fn up_to_the_last(address: u32) -> u32 {
+    match address {
+        1..=16 => address,
+        _ => 0,
+    }
+}
+
+fn tree_of_three() -> Input {
+    three_below(|address| [3 * address - 1, 3 * address, 3 * address + 1])
+}
+
+/// Each record has the next one below it three times.
+fn ladder() -> Input {
+    three_below(|address| [address + 1; 3])
 }

@@ -30,9 +30,11 @@ mod strangers;
 mod tally;
 mod unfoldings;
 mod walk;
+mod walk_bench;
 mod walk_test;
 
 use compare::{Comparer, Limit};
+use input::Input;
 use std::path::{Path, PathBuf};
 use std::process::ExitCode;
 use std::time::{Duration, SystemTime, UNIX_EPOCH};
@@ -40,8 +42,8 @@ use std::time::{Duration, SystemTime, UNIX_EPOCH};
 const USAGE: &str = "usage: compare [--seed N] [--long [COUNT | SECONDSs]] [--thin N]
                [--pool NAME] [--program PATH | --no-program] [--exact]
        compare --bench [POOL...]
-       compare --names
-       compare --once POOL proved|lent|part|reference
+       compare --names [walk]
+       compare --once POOL proved|lent|part|reference|walk|reference_walk
        compare --input [--lent LINES WORDS] [--dirt N] [--part N]
                BOOK SNAPSHOT QUESTION [UNFOLDING]   (in hex, - for none)
        compare --self-test
@@ -68,12 +70,8 @@ fn main() -> ExitCode {
     let words: Vec<&str> = words.iter().map(String::as_str).collect();
     let done = match words.split_first() {
         Some((&"--bench", names)) => bench::run(names).is_ok(),
-        Some((&"--names", [])) => {
-            bench::pools()
-                .iter()
-                .for_each(|(name, _)| println!("{name}"));
-            true
-        }
+        Some((&"--names", [])) => names(&bench::pools()),
+        Some((&"--names", ["walk"])) => names(&walk_bench::pools()),
         Some((&"--once", [name, which])) => bench::once(name, which).is_some(),
         Some((&"--input", words)) => again::run(words).is_some(),
         Some((&"--self-test", [])) => return ExitCode::from(!selftest::run() as u8),
@@ -90,6 +88,11 @@ fn main() -> ExitCode {
         eprintln!("{USAGE}");
         ExitCode::from(2)
     }
+}
+
+fn names(pools: &[(String, Input)]) -> bool {
+    pools.iter().for_each(|(name, _)| println!("{name}"));
+    true
 }
 
 fn options(words: &[&str]) -> Option<Options> {
