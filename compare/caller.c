@@ -13,6 +13,9 @@
 #include "desk.h"
 #include "shapes.h"
 
+uint64_t shapes_walk(const uint8_t *book, size_t book_len, const uint8_t *snapshot, size_t snapshot_len,
+                     const uint8_t *question, size_t question_len, uint64_t *verdict);
+
 enum { MOST_INPUT = 4096, MOST_UNFOLDING = 24576, STACK = 1 << 20, PAINT = 0xA5 };
 
 /* Bytes in a block of just their size, so that a memory checker sees a read
@@ -22,10 +25,11 @@ struct block {
     size_t len;
 };
 
-enum entry { NOTHING, DESK_DECIDE, DESK_CHECK, SHAPES_DECIDE, SHAPES_CHECK, SHAPES_PART, SHAPES_CHECK_PART, ENTRIES };
+enum entry { NOTHING, DESK_DECIDE, DESK_CHECK, SHAPES_DECIDE, SHAPES_CHECK, SHAPES_PART, SHAPES_CHECK_PART,
+             SHAPES_WALK, ENTRIES };
 
-static const char *const entry_names[] = {"",           "desk_decide", "desk_check",       "shapes_decide",
-                                          "shapes_check", "shapes_part", "shapes_check_part"};
+static const char *const entry_names[] = {"",             "desk_decide", "desk_check",        "shapes_decide",
+                                          "shapes_check", "shapes_part", "shapes_check_part", "shapes_walk"};
 
 enum { VERDICT, FACTS, ROUNDS, LINES, NUMBERS };
 
@@ -106,6 +110,8 @@ static void *run(void *data)
     if (call->entry == SHAPES_CHECK_PART)
         call->answer = shapes_check_part(p[0].bytes, p[0].len, p[1].bytes, p[1].len, p[2].bytes, p[2].len,
                                          *call->part, (const uint64_t *)u->bytes, u->len / 8, n[VERDICT]);
+    if (call->entry == SHAPES_WALK)
+        call->answer = shapes_walk(p[0].bytes, p[0].len, p[1].bytes, p[1].len, p[2].bytes, p[2].len, n[VERDICT]);
     return NULL;
 }
 
@@ -154,6 +160,12 @@ static void desk(struct call *call)
         printf(" %llu", (unsigned long long)call->answer);
         free(call->unfolding.bytes);
     }
+}
+
+static void walk(struct call *call)
+{
+    make(call, SHAPES_WALK);
+    printf("; walk %llu %llu", (unsigned long long)call->answer, (unsigned long long)*call->numbers[VERDICT]);
 }
 
 /* The engine with a table of so many lines; then the check with the unfolding
@@ -205,6 +217,7 @@ int main(int count, char **names)
         fclose(file);
         printf("%s:", names[i]);
         desk(&call);
+        walk(&call);
         shapes(&call, 1024);
         shapes(&call, 65535);
         putchar('\n');
