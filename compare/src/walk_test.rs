@@ -176,7 +176,10 @@ fn as_found(walked: &mut Walked) {
     walked.verdict = Block::number(MANNER);
 }
 
-pub const COUNT: usize = ALTERED.len() + FAULTS * FAULT_ALTERED.len();
+/// Where the engine's verdict is altered, and both walks' are not.
+const ENGINE_ALTERED: [Way; 2] = [Way::PlainFits, Way::PlainDoesNot];
+
+pub const COUNT: usize = ALTERED.len() + FAULTS * FAULT_ALTERED.len() + ENGINE_ALTERED.len();
 
 /// What was missed, or found where there is nothing.
 pub fn missed() -> Vec<&'static str> {
@@ -199,15 +202,27 @@ pub fn missed() -> Vec<&'static str> {
             missed.push(name);
         }
     }
+    for way in ENGINE_ALTERED {
+        let (input, mut expected) = known(way);
+        expected.engine = expected.engine.map(|fits| !fits);
+        if walk::judged(&input, &expected, &lent::walk(&input, MANNER)).is_ok() {
+            missed.push("another verdict of the engine");
+        }
+    }
     missed
 }
 
-/// Whether the answer is called right once it is altered.
-fn right(way: Way, alter: Alter) -> bool {
+fn known(way: Way) -> (Input, Expected) {
     let (input, sizes) = asked(way);
     let [book, snapshot, question] = input.sections();
     let outcome = api::decide(book, snapshot, question, sizes.lines, sizes.words);
     let expected = Expected::of(&input, outcome.reply);
+    (input, expected)
+}
+
+/// Whether the answer is called right once it is altered.
+fn right(way: Way, alter: Alter) -> bool {
+    let (input, expected) = known(way);
     let mut walked = lent::walk(&input, MANNER);
     alter(&mut walked);
     walk::judged(&input, &expected, &walked).is_ok()
