@@ -13,9 +13,6 @@
 #include "desk.h"
 #include "shapes.h"
 
-uint64_t shapes_walk(const uint8_t *book, size_t book_len, const uint8_t *snapshot, size_t snapshot_len,
-                     const uint8_t *question, size_t question_len, uint64_t *verdict);
-
 enum { MOST_INPUT = 4096, MOST_UNFOLDING = 24576, STACK = 1 << 20, PAINT = 0xA5 };
 
 /* Bytes in a block of just their size, so that a memory checker sees a read

@@ -299,6 +299,6 @@ class BesideTheEngine(unittest.TestCase):
                 refusal, walked = library.walk(*blocks)
                 engine = library.decide(*blocks, 65_535)
                 # Where the engine's table is too short, the walk has a verdict all the same.
+                self.assertEqual(refusal, engine.refusal if engine.refusal < 10 else 0)
                 if engine.refusal < 10:
-                    self.assertEqual(refusal, engine.refusal)
                     self.assertLessEqual(walked, engine.verdict)
