@@ -55,9 +55,10 @@ uint64_t shapes_check_part(const uint8_t *book, size_t book_len, const uint8_t *
                            const uint8_t *question, size_t question_len,
                            uint16_t part, const uint64_t *words, size_t words_len, uint64_t *taken);
 
-/* The quick walk, for plain books: it is lent no table and no space, unfolds from the question downward and has only a verdict, after
- * refusals 1 to 9. Fits (verdict 1) is right for every book. 0 means that the heap does not fit if the book is plain; if it is not, 0 means
- * nothing, and shapes_decide answers. README.md says which books are plain; the walk does not test it. */
+/* The quick walk, for plain books: it is lent no table and no space, unfolds the question from the top and has only a verdict, after
+ * refusals 1 to 9. Verdict 1 is right for every book. Without a refusal, 0 says for a plain book that the heap does not fit; for any other
+ * book it says nothing, and shapes_decide has to be asked. A rule with calls and no cell is never unfolded. The walk does not test whether
+ * the book is plain: README.md, "Plain books, quickly", says which books are. */
 uint64_t shapes_walk(const uint8_t *book, size_t book_len, const uint8_t *snapshot, size_t snapshot_len,
                      const uint8_t *question, size_t question_len, uint64_t *verdict);
 

@@ -12,6 +12,7 @@ use block::call_count;
 use block::call_predicate;
 use block::call_term;
 use block::record_count;
+use words::bit;
 use words::pack;
 use words::part_of;
 use words::shares;
@@ -25,15 +26,6 @@ ghost use Rattle.words.specs.Subheap.{Told};
 ghost use Rattle.block.specs.Layout.{callIn, callCount, callPlace, recordCount};
 ghost use Rattle.block.specs.Ready.{Formed};
 ghost use Rattle.certificate.specs.Line.{givenBy, CallsLine, CallsOf, JoinOf};
-
-// The subheap of record i alone.
-fn bit(i: usize) -> u16
-    requires { ⌜ i < 16 ⌝ }
-    ensures { λ r. ⌜ r ≡ 2 ^ i ⌝ }
-{
-    let one: u16 = 1;
-    one << i
-}
 
 // The position of argument j of call c; 0 past the last.
 fn argument(rules: &RuleBlock, rule: usize, c: usize, word: u64, j: usize) -> u8

@@ -1,5 +1,5 @@
 // The values of a rule's variables, found from the head's arguments along equalities and along the fields of records at known addresses. What
-// is found is what the rule must have wherever it applies; in a plain rule set that is all there is.
+// is found is what the rule must have wherever it applies; in a plain rule set, where it applies, every variable is found.
 mod links;
 pub mod records;
 pub mod values;
@@ -18,7 +18,7 @@ ghost use Rattle.block.specs.Ready.{Formed, variablesIn};
 ghost use Rattle.finding.specs.Values.{Counted};
 ghost use Rattle.finding.specs.Found.{Opened, FoundIn};
 
-// The head's arguments, as a beginning: every bound variable is open. Their number.
+// The beginning: the arguments stay, every bound variable is opened. The number of these.
 fn begin(rules: &RuleBlock, rule: usize, values: &mut Values) -> usize
     requires { ⌜ Formed (now rules) rule × Counted (now values) 0 ⌝ }
     ensures { λ r. ⌜ Opened (headArity (now (rules .entry)) rule) (variablesIn (now (rules .entry)) rule) (now (values .entry)) (now (values .exit)) × Counted (now (values .exit)) r ⌝ }

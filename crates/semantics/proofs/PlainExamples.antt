@@ -1,4 +1,4 @@
--- A plain rule set, and for each of the three conditions a rule set that fails it and keeps the other two. The house book is not plain.
+-- Two plain rule sets, and for each of the three conditions a rule set that fails it and keeps the other two. The house book is not plain.
 use mathlib.Core.{Path._≡_, Path.refl, Path.sym, Path._∙_, Path.subst, Logic.⊎-elim, Logic.by-cases}
 use mathlib.Core.List.{List, [], _∷_, cons≢nil, List·Memᴰ·head, List·Memᴰ·tail, List·Memᴰ·cases-cons, List·Memᴰ·not-nil}
 use Prim.Native.Nat.{ℕ, zero, suc, _<_}
@@ -79,6 +79,57 @@ overlapping-alone = (
       })
       (record { bound = 0 ∷ []; bound-counted = refl; meets = λ pure m. absurd (List·Memᴰ·not-nil m) }),
 )
+
+-- ---- rules of two predicates
+
+-- Its variables are fixed in every way: the argument, an equality to the left, nil, a field, an equality to the right.
+abbrev tied : Rule
+tied = record {
+  head = 0;
+  bound = 4;
+  pures = equals (var 1) (var 0) ∷ equals (fixed 0) (var 2) ∷ equals (var 3) (var 4) ∷ [];
+  points-to = record { address = 1; fields = var 3 ∷ [] } ∷ [];
+  calls = record { predicate = 1; arguments = var 4 ∷ [] } ∷ [];
+}
+
+abbrev bare : Rule
+bare = record { head = 1; bound = 0; pures = []; points-to = []; calls = [] }
+
+abbrev pub kinds : RuleSet
+kinds = record { arities = 1 ∷ 1 ∷ []; rules = tied ∷ bare ∷ [] }
+
+-- Every argument meets the conditions of both rules, which are of two predicates.
+pub kinds-plain : Plain kinds
+kinds-plain = record {
+  consuming = both Consumes (λ h e. cons≢nil e) (λ h. absurd (h refl));
+  all-fixed = both (AllFixed kinds) tied-fixed (λ v h. Fixed.of-head (omega arith));
+  exclusive = apart;
+}
+  where
+    both : (P : Rule → Type 0) → P tied → P bare → (rule : Rule) → rule among kinds .rules → P rule
+    both P p q rule m =
+        ⊎-elim (λ e. subst P (sym e) p)
+        (λ k. ⊎-elim (λ e. subst P (sym e) q) (λ z. absurd (List·Memᴰ·not-nil z)) (List·Memᴰ·cases-cons k)) (List·Memᴰ·cases-cons m)
+
+    address : Fixed kinds tied (var 1)
+    address = Fixed.to-left (List·Memᴰ·head refl) (Fixed.of-head {v = 0} (omega arith))
+
+    field : Fixed kinds tied (var 3)
+    field = Fixed.of-field (List·Memᴰ·head refl) (List·Memᴰ·head refl) address
+
+    tied-fixed : AllFixed kinds tied
+    tied-fixed zero h = Fixed.of-head {v = 0} (omega arith)
+    tied-fixed (suc zero) h = address
+    tied-fixed (suc (suc zero)) h = Fixed.to-right (List·Memᴰ·tail (List·Memᴰ·head refl)) Fixed.fixed-value
+    tied-fixed (suc (suc (suc zero))) h = field
+    tied-fixed (suc (suc (suc (suc zero)))) h = Fixed.to-right (List·Memᴰ·tail (List·Memᴰ·tail (List·Memᴰ·head refl))) field
+    tied-fixed (suc (suc (suc (suc (suc v))))) h = absurd (omega arith)
+
+    apart : (i j : ℕ) → i < j → j < 2 → Exclude kinds (ruleOf kinds i) (ruleOf kinds j)
+    apart i zero l h = absurd (omega arith)
+    apart zero (suc zero) l h = λ e. absurd (omega (arith, e))
+    apart (suc i) (suc zero) l h = absurd (omega arith)
+    apart i (suc (suc j)) l h = absurd (omega arith)
 
 -- ---- rule sets of one rule, for a predicate with one argument
 

@@ -4,8 +4,8 @@ use mathlib.Core.{Path._≡_, Path.refl, Path.sym, Path.ap, Path._∙_, Logic._�
 use Prim.Native.Nat.{ℕ, _≤_}
 use native.Mathlib.{Omega.arith, Decide.ℕ-discrete}
 use Rattle.semantics.specs.{Reader.accepted, Reader.refused, Formats.Input, Formats.ladder, Formats.WellFormedInput, Served.Served}
-use Rattle.semantics.specs.{Contract.FitsInput, Contract.Answers, Contract.Decided, Plain.Plain, Walk.Walks, Walk.Walked}
-use Rattle.semantics.proofs.{FormatsFacts.ladder-read, Reached.fits-decided, EngineCall.one-ladder, UnfoldedRules.fits-unfolded, UnfoldedRules.fits-consuming}
+use Rattle.semantics.specs.{Contract.FitsInput, Contract.Answers, Contract.Decided, Tree.Fits, Plain.Plain, Walk.unfoldedOnly, Walk.Walks, Walk.Walked}
+use Rattle.semantics.proofs.{FormatsFacts.ladder-read, FormatsFacts.ladder-number, Reached.fits-decided, EngineCall.one-ladder, UnfoldedRules.fits-unfolded, UnfoldedRules.fits-consuming}
 use Rattle.semantics.proofs.{UnfoldedRules.unfoldedInput, UnfoldedRules.input-unfolded}
 use Rattle.semantics.proofs.ServedFacts.{clash, same-input, served-answered, served-both, unread-exactly, serves}
 use Rattle.semantics.specs.declared.{Reply.Reply, WalkReply.WalkReply}
@@ -71,6 +71,40 @@ module _ (book snapshot question : List ℕ) where
 
       answered : (i : Input) → Walks i r → r .refusal ≢ n
       answered i w e = omega (arith, w .unrefused)
+
+  -- No number beyond 9, and none exactly where all is read; no verdict beyond 1, and none with a refusal.
+  pub walked-unrefused : {r : WalkReply} → Walked book snapshot question r → (r .refusal ≡ 0) ↔ ((i : Input) × (ladder book snapshot question ≡ accepted i))
+  walked-unrefused {r} d = (by d, λ (i, e). walked-answer d e .unrefused)
+    where
+      by : Walked book snapshot question r → r .refusal ≡ 0 → (i : Input) × (ladder book snapshot question ≡ accepted i)
+      by (Served.unread n e k) z = absurd (omega (arith, ap (λ (s : WalkReply). s .refusal) k, ladder-number book snapshot question n e .0))
+      by (Served.unlent i e l k) z = absurd (l tt)
+      by (Served.answered i e l w) z = (i, e)
+
+  pub walked-most : {r : WalkReply} → Walked book snapshot question r → (r .refusal ≤ 9) × (r .verdict ≤ 1)
+  walked-most (Served.unread n e k) = (
+    omega (arith, ap (λ (s : WalkReply). s .refusal) k, ladder-number book snapshot question n e .1),
+    omega (arith, ap (λ (s : WalkReply). s .verdict) k),
+  )
+  walked-most (Served.unlent i e l k) = absurd (l tt)
+  walked-most (Served.answered i e l w) = (omega (arith, w .unrefused), w .a-verdict)
+
+  pub walked-refused-alone : {r : WalkReply} → Walked book snapshot question r → r .refusal ≢ 0 → r .verdict ≡ 0
+  walked-refused-alone (Served.unread n e k) z = ap (λ (s : WalkReply). s .verdict) k
+  walked-refused-alone (Served.unlent i e l k) z = absurd (l tt)
+  walked-refused-alone (Served.answered i e l w) z = absurd (z (w .unrefused))
+
+  module _ (i : Input) (e : ladder book snapshot question ≡ accepted i) where
+    -- Where the unfolded rules do not fit, it says no.
+    pub walk-no-without : {r : WalkReply} → Walked book snapshot question r → ¬ Fits (unfoldedOnly (i .ruleSet)) (i .heap) (i .predicate) (i .values) → r .verdict ≡ 0
+    walk-no-without {r} d n = let w = walked-answer d e in by-cases (ℕ-discrete (r .verdict) 1) (λ v. absurd (n (w .right v))) (λ v. omega (arith, w .a-verdict))
+
+    -- Where they do, a rule set that is not plain leaves the choice.
+    pub walked-yes-allowed : Fits (unfoldedOnly (i .ruleSet)) (i .heap) (i .predicate) (i .values) → Walked book snapshot question (record { refusal = 0; verdict = 1 })
+    walked-yes-allowed f = Served.answered i e tt (record { unrefused = refl; a-verdict = omega arith; right = λ v. f; exact = λ plain k. refl })
+
+    pub walked-no-allowed : ¬ Plain (i .ruleSet) → Walked book snapshot question (record { refusal = 0; verdict = 0 })
+    walked-no-allowed n = Served.answered i e tt (record { unrefused = refl; a-verdict = omega arith; right = λ v. absurd (omega (arith, v)); exact = λ plain k. absurd (n plain) })
 
   -- Two replies differ at most in the verdict.
   pub walked-refusals : {r s : WalkReply} → Walked book snapshot question r → Walked book snapshot question s → r .refusal ≡ s .refusal

@@ -22,7 +22,7 @@ unfoldedOnly ruleSet = record { arities = ruleSet .arities; rules = unfoldedRule
 -- ---- the walk
 
 -- Its answer to what was read. A yes is right for every rule set, and by the unfolded rules alone. A no is right for a plain one; for
--- others it says nothing, and where it is given is the program's choice.
+-- others it says nothing: it is given where the unfolded rules do not fit, and elsewhere as the program chooses.
 pub record Walks (i : Input) (reply : WalkReply) : Type 0 where
   pub unrefused : reply .refusal ≡ 0
   pub a-verdict : reply .verdict ≤ 1

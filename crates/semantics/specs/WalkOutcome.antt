@@ -1,5 +1,5 @@
 -- What the functions that a walk is made of promise. The walk carries a mask of the records taken so far. What it finds is a tree of
--- unfolded rules, all of whose records were free; where it finds none, a plain rule set has no such tree.
+-- unfolded rules, all of whose records were free; where it finds none, a plain rule set has no such tree of fewer records than the fuel.
 use mathlib.Core.Option.{Option}
 use mathlib.Core.{List.List, List.[], List._∷_, List._++_, Path._≡_, Logic._≢_}
 use Prim.Native.Nat.{ℕ, _+_, _^_, _<_}

@@ -16,6 +16,7 @@ use finding::records::field;
 use finding::records::record_at;
 use finding::values::Values;
 use finding::values::entry;
+use words::bit;
 use words::shares;
 ghost use mathlib.Core.Path.{_≡_};
 ghost use mathlib.Core.Bool.{Bool};
@@ -100,15 +101,6 @@ fn record_matches(
         return false;
     }
     fields_match(rules, atom_fields(rule, g), values, heap, i, count)
-}
-
-// The subheap of record i alone.
-fn bit(i: usize) -> u16
-    requires { ⌜ i < 16 ⌝ }
-    ensures { λ r. ⌜ r ≡ 2 ^ i ⌝ }
-{
-    let one: u16 = 1;
-    one << i
 }
 
 // Takes the record that points-to atom g asks for, if it is free.
