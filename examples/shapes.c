@@ -19,6 +19,12 @@ static const uint8_t chain[] = {2, VALUE(10), 1, VALUE(20), VALUE(20), 1, VALUE(
 static const uint8_t to_30[] = {0, 2, VALUE(10), VALUE(30)};
 static const unsigned kept[] = {0, 1, 2, 3, 10, 20}; /* nil, a spare for each of the three variables, and what question and snapshot have */
 
+/* A refusal has no verdict. */
+static const char *said(uint64_t refusal, uint64_t verdict)
+{
+    return refusal ? "refused" : verdict ? "fits" : "does not fit";
+}
+
 int main(void)
 {
     uint64_t table[LINES], space[3 * LINES], verdict, facts, rounds, lines, taken;
@@ -41,13 +47,13 @@ int main(void)
     uint16_t part;
     refusal = shapes_part(book, sizeof book, snapshot, sizeof snapshot, to_20, sizeof to_20,
                           table, LINES, space, 3 * LINES, &verdict, &part, &facts, &rounds, &lines);
-    printf("some part: refusal %" PRIu64 ", %s, records 0x%04x\n", refusal, verdict ? "fits" : "does not fit", (unsigned)part);
+    printf("some part: refusal %" PRIu64 ", %s, records 0x%04x\n", refusal, said(refusal, verdict), (unsigned)part);
     refusal = shapes_check_part(book, sizeof book, snapshot, sizeof snapshot, to_20, sizeof to_20, part, space, 3 * lines, &taken);
     printf("check of this part: refusal %" PRIu64 ", %s\n", refusal, taken ? "taken" : "not taken");
 
     refusal = shapes_walk(plain, sizeof plain, chain, sizeof chain, to_30, sizeof to_30, &verdict);
-    printf("walk to 30: refusal %" PRIu64 ", %s\n", refusal, verdict ? "fits" : "does not fit");
+    printf("walk to 30: refusal %" PRIu64 ", %s\n", refusal, said(refusal, verdict));
     refusal = shapes_walk(plain, sizeof plain, chain, sizeof chain, to_20, sizeof to_20, &verdict);
-    printf("walk to 20: refusal %" PRIu64 ", %s\n", refusal, verdict ? "fits" : "does not fit");
+    printf("walk to 20: refusal %" PRIu64 ", %s\n", refusal, said(refusal, verdict));
     return 0;
 }

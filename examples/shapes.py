@@ -23,6 +23,8 @@ path = Path(__file__).resolve().parent.parent / "target" / "libshapes.so"
 if not path.exists():
     raise SystemExit("target/libshapes.so is not there yet: the first ./shapes ask makes it")
 library = CDLL(str(path))
+if not hasattr(library, "shapes_walk"):
+    raise SystemExit("target/libshapes.so is of an older version: the next ./shapes ask makes it again")
 for entry in (library.shapes_decide, library.shapes_check, library.shapes_part, library.shapes_check_part, library.shapes_walk):
     entry.restype = c_uint64
 

@@ -13,4 +13,4 @@ class FromPython(unittest.TestCase):
         self.assertEqual(done.stdout, (ROOT / "examples/shapes.py.expected").read_text())
 
     def test_is_short(self):
-        self.assertLess(len((ROOT / "examples/shapes.py").read_text().splitlines()), 55)
+        self.assertLess(len((ROOT / "examples/shapes.py").read_text().splitlines()), 60)

@@ -19,7 +19,7 @@ class Readme(unittest.TestCase):
     def test_answers(self):
         """What stands after a command that asks is what it prints."""
         asked = [place for place, block in enumerate(BLOCKS) if block.startswith("./shapes ask ")]
-        self.assertEqual([BLOCKS[place].split(" house ")[0] for place in asked], ["./shapes ask", "./shapes ask --part"])
+        self.assertEqual([BLOCKS[place].split(" house ")[0].split(" examples")[0] for place in asked], ["./shapes ask", "./shapes ask --part", "./shapes ask --walk"])
         for place in asked:
             with self.subTest(command=BLOCKS[place]):
                 self.assertEqual(run(BLOCKS[place]), BLOCKS[place + 1])
