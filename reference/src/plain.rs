@@ -57,8 +57,8 @@ pub fn fixed(rule: &Rule, arity: usize) -> Vec<bool> {
     }
 }
 
-/// Whether the pure conditions of two rules of a predicate never hold together
-/// for some arguments. The same rule written twice makes two rules.
+/// Whether there are no arguments for which the pure conditions of two rules of
+/// one predicate can hold. The same rule written twice makes two rules.
 pub fn exclusive(rules: &RuleSet) -> bool {
     let met: Vec<BTreeSet<Vec<usize>>> = rules
         .rules
