@@ -2,7 +2,7 @@
 plain book a no of the quick walk says that the pool does not fit; for another it says nothing. This test is the workbench's own and not
 proved, and the walk does not make it."""
 
-from collections.abc import Iterator
+from collections.abc import Iterable, Iterator
 from itertools import chain, combinations
 
 from workbench.lexer import shorten
@@ -39,7 +39,16 @@ def _met_together(book: Book) -> Iterator[str]:
             arguments = met_by_both(first, second, predicate.arguments)
             if arguments is not None:
                 example = f"{shorten(predicate.name)}({', '.join(map(write_value, arguments))})"
-                yield f"the conditions of {_rules(book, i, j)} can both be met, for example by {example}"
+                apart = _other_values(names_apart(first, second, predicate.arguments))
+                yield f"the conditions of {_rules(book, i, j)} can both be met, for example by {example}{apart}"
+
+
+def _other_values(names: list[str]) -> str:
+    """What is easily overlooked where one name stands in both rules."""
+    if len(names) < 2:
+        return f" ({shorten(names[0])} is not in the head and may have another value in each)" if names else ""
+    *ahead, last = map(shorten, names)
+    return f" ({', '.join(ahead)} and {last} are not in the head and may have other values in each)"
 
 
 def fixed_terms(rule: Rule, arguments: int) -> set[int]:
@@ -79,7 +88,36 @@ class _Classes:
 
 def met_by_both(first: Rule, second: Rule, arguments: int) -> tuple[int, ...] | None:
     """Arguments for which the conditions of either rule can be met, with any whole numbers for its bound variables; None where there are
-    none. Nothing but an inequality between terms of one class is in the way: there are numbers enough for each class to have its own."""
+    none."""
+    classes = _classes(first, second, arguments)
+    if classes is None:
+        return None
+    numbers = {classes.of((0, NIL)): 0}
+    return tuple(numbers.setdefault(classes.of((0, argument)), len(numbers)) for argument in range(arguments))
+
+
+def names_apart(first: Rule, second: Rule, arguments: int) -> list[str]:
+    """The bound names in the conditions of both rules that may have another value in each, where this alone lets the conditions of both be
+    met; else none."""
+    classes = _classes(first, second, arguments)
+    if classes is None:
+        return []
+    found = {}
+    for name in first.variables[arguments:]:
+        if name in second.variables[arguments:]:
+            both = (1, first.variables.index(name)), (2, second.variables.index(name))
+            if all(_stands_in_condition(rule, term) for rule, (_, term) in zip((first, second), both)) and len(set(map(classes.of, both))) == 2:
+                found[name] = both
+    return [] if _classes(first, second, arguments, found.values()) else list(found)
+
+
+def _stands_in_condition(rule: Rule, term: int) -> bool:
+    return any(term in (each.left, each.right) for each in rule.conditions)
+
+
+def _classes(first: Rule, second: Rule, arguments: int, same: Iterable[tuple[_Term, _Term]] = ()) -> _Classes | None:
+    """The classes where the conditions of both rules are met and the terms of `same` are the same; None where that cannot be. Nothing but
+    an inequality between terms of one class is in the way: there are numbers enough for each class to have its own."""
 
     def pairs(kind: int) -> Iterator[tuple[_Term, _Term]]:
         for own, rule in ((1, first), (2, second)):
@@ -89,12 +127,9 @@ def met_by_both(first: Rule, second: Rule, arguments: int) -> tuple[int, ...] | 
                     yield left, right
 
     classes = _Classes()
-    for left, right in pairs(EQUAL):
+    for left, right in chain(pairs(EQUAL), same):
         classes.join(left, right)
-    if any(classes.of(left) == classes.of(right) for left, right in pairs(UNEQUAL)):
-        return None
-    numbers = {classes.of((0, NIL)): 0}
-    return tuple(numbers.setdefault(classes.of((0, argument)), len(numbers)) for argument in range(arguments))
+    return None if any(classes.of(left) == classes.of(right) for left, right in pairs(UNEQUAL)) else classes
 
 
 def _rules(book: Book, *numbers: int) -> str:

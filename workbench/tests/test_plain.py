@@ -1,6 +1,7 @@
 """Plain books, and books that miss one of the three sentences by a little."""
 
 import unittest
+from collections.abc import Iterator
 from dataclasses import replace
 from itertools import product
 from random import Random
@@ -9,7 +10,7 @@ from workbench.book_bytes import decode_book, encode_book
 from workbench.book_text import parse_book
 from workbench.library import ROOT
 from workbench.model import EQUAL, NIL, UNEQUAL, Book, Cell, Condition, Predicate, Rule
-from workbench.plain import fixed_terms, met_by_both, not_plain
+from workbench.plain import fixed_terms, met_by_both, names_apart, not_plain
 from workbench.sources import read_book
 from workbench.tests.engine_samples import H, L, PLAIN, S
 
@@ -181,8 +182,35 @@ class Pairs(unittest.TestCase):
         self.together("a = x * x = b", "y = a * c = y", "p(1, 1, 1)")
 
     def test_bound_variables_of_one_rule_are_not_those_of_the_other(self):
-        self.together("a -> x * x = nil", "a -> x * x != nil", "p(1, 2, 3)")
-        self.together("a -> x * x = a", "a -> x * x != a", "p(1, 2, 3)")
+        said = "(x is not in the head and may have another value in each)"
+        self.together("a -> x * x = nil", "a -> x * x != nil", f"p(1, 2, 3) {said}")
+        self.together("a -> x * x = a", "a -> x * x != a", f"p(1, 2, 3) {said}")
+        self.together("a -> (x, y) * x = nil * y = b", "a -> (x, y) * nil != x", f"p(1, 2, 3) {said}")
+
+    def test_several_bound_variables(self):
+        said = "(x and y are not in the head and may have other values in each)"
+        self.together("a -> (x, y) * x = nil * y = b", "a -> (x, y) * y != b * x != nil", f"p(1, 2, 3) {said}")
+        # Only both together keep the rules apart.
+        self.together("a -> (x, y) * x = y", "a -> (x, y) * x != y", f"p(1, 2, 3) {said}")
+        said = "(x, y and z are not in the head and may have other values in each)"
+        self.together("a -> (x, y, z) * x = y * y = z", "a -> (x, y, z) * x = y * x != z", f"p(1, 2, 3) {said}")
+
+    def test_nothing_is_said_of_names_that_make_no_difference(self):
+        # Two names; a name in one rule's conditions alone; one that has the same value in both; one that is met by the same value.
+        self.together("a -> x * x = nil", "a -> y * y != nil", "p(1, 2, 3)")
+        self.together("a -> x * x = nil", "a -> x", "p(1, 2, 3)")
+        self.together("x = a * x = nil", "x = a * b = x", "p(nil, nil, 1)")
+        self.together("a -> x * x != a", "a -> x * x != nil", "p(1, 2, 3)")
+        self.apart("x = a * x = nil", "x = a * x != nil")
+
+    def test_a_name_of_a_head_is_not_bound(self):
+        """One rule has it in the head, the other has not."""
+        self.assertRegex(reason("p { a -> x * x = nil => p(a) | x != nil => p(x) }"), r"by p\(1\)$")
+
+    def test_names_of_bytes(self):
+        book = decode_book(encode_book(parse_book("p { a -> h * h = nil => p(a) | a -> h * h != nil => p(a) }", "book")))
+        both = "the conditions of rules 1 and 2 of p0 can both be met, for example by p0(1)"
+        self.assertEqual(not_plain(book), f"{both} (b is not in the head and may have another value in each)")
 
     def test_a_rule_that_cannot_be_met(self):
         for atoms in ("a != a", "a = nil * nil != a", "a = b * b = c * c != a", "a -> x * x != x", "x = nil * x != nil"):
@@ -207,14 +235,20 @@ class Pairs(unittest.TestCase):
         self.assertRegex(reason(text), "^the conditions of rules 3 and 4 of p ")
 
 
-def met(rule: Rule, arguments: tuple[int, ...], most: int) -> bool:
-    """Whether numbers up to `most` for the bound variables meet the conditions, by trying all."""
+def bound_values(rule: Rule, arguments: tuple[int, ...], most: int) -> Iterator[dict[str, int]]:
+    """Numbers up to `most` for the bound variables that meet the conditions, by trying all."""
 
     def holds(values: tuple[int, ...]) -> bool:
         pairs = [(each.kind, *(0 if term == NIL else values[term] for term in (each.left, each.right))) for each in rule.conditions]
         return all((left == right) == (kind == EQUAL) for kind, left, right in pairs)
 
-    return any(holds(arguments + bound) for bound in product(range(most + 1), repeat=len(rule.variables) - len(arguments)))
+    for bound in product(range(most + 1), repeat=len(rule.variables) - len(arguments)):
+        if holds(arguments + bound):
+            yield dict(zip(rule.variables[len(arguments) :], bound))
+
+
+def met(rule: Rule, arguments: tuple[int, ...], most: int) -> bool:
+    return any(True for _ in bound_values(rule, arguments, most))
 
 
 class ByTrying(unittest.TestCase):
@@ -240,3 +274,25 @@ class ByTrying(unittest.TestCase):
                 if all(set(range(len(rule.variables))) <= fixed_terms(rule, arguments) for rule in book.rules):
                     self.assertEqual(not_plain(book) == "", found is None)
         self.assertGreater(min(seen.values()), 100, seen)
+
+    def test_names_that_may_have_another_value_in_each(self):
+        """They are named exactly where no arguments would meet both conditions if each of the names in both had one value, and each may have
+        two."""
+        chance = Random(5)
+        named = [0, 0]
+        for case in range(1000):
+            arguments = chance.randrange(3)
+            first, second = (some_rule(chance, arguments, chance.randrange(1, 3)) for _ in range(2))
+            most = len(first.variables) + len(second.variables) - arguments
+            in_conditions = [{term for each in rule.conditions for term in (each.left, each.right)} for rule in (first, second)]
+            shared = [name for term, name in enumerate(first.variables) if term >= arguments and all(term in terms for terms in in_conditions)]
+            met_so = [
+                [one[name] != other[name] for name in shared]
+                for values in product(range(most + 1), repeat=arguments)
+                for one, other in product(*(list(bound_values(rule, values, most)) for rule in (first, second)))
+            ]
+            with self.subTest(case=case):
+                due = [] if [False] * len(shared) in met_so else [name for i, name in enumerate(shared) if any(so[i] for so in met_so)]
+                self.assertEqual(names_apart(first, second, arguments), due)
+                named[bool(due)] += 1
+        self.assertGreater(min(named), 20, named)
