@@ -15,7 +15,11 @@ SENTENCES = {
     10: "the memory lent does not fit together: lend a table of 1 to 65,535 words and an unfolding space of three times as many",
     11: "there are more than 65,535 facts: see whether a rule leaves an argument of its predicate free, which then takes every kept value",
 }
+# What else helps where all records were asked about. About some part the walk cannot be asked.
+WITHOUT_A_TABLE = {11: "; or, if the book is plain, ask with --walk, which needs no table"}
 
 
-def sentence(refusal: int) -> str:
-    return SENTENCES.get(refusal, "a number that this workbench does not know; it and the library are not of one version")
+def sentence(refusal: int, some_part: bool = False) -> str:
+    """What to say where the whole pool or some part of it was asked about."""
+    found = SENTENCES.get(refusal, "a number that this workbench does not know; it and the library are not of one version")
+    return found if some_part else found + WITHOUT_A_TABLE.get(refusal, "")

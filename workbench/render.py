@@ -35,7 +35,7 @@ ORDINALS = ("first", "second", "third", "fourth")
 
 def answer_text(answer: Answer) -> str:
     if answer.kind == REFUSED:
-        return refusal_text(answer.reply.refusal, answer.detail) + "\n"
+        return refusal_text(answer.reply.refusal, answer.detail, answer.asked.some_part) + "\n"
     rows = _part_rows(answer) + _tree_rows(answer) if answer.kind == FITS else _hint_rows(answer)
     return "".join(row + "\n" for row in [verdict(answer), *rows])
 
@@ -75,14 +75,14 @@ def _part_rows(answer: Answer, *more: list[str]) -> list[str]:
     return rows + ([f"  {NO_FIND}", f"  {LARGER}"] if left_out and not records else [])
 
 
-def refusal_text(refusal: int, detail: str = "") -> str:
-    return f"refusal {refusal}: {sentence(refusal)}" + (f"\n  {detail}" if detail else "")
+def refusal_text(refusal: int, detail: str = "", some_part: bool = False) -> str:
+    return f"refusal {refusal}: {sentence(refusal, some_part)}" + (f"\n  {detail}" if detail else "")
 
 
 def short_text(answer: Answer) -> str:
     """One line, for a row among those of other pools."""
     if answer.kind == REFUSED:
-        return refusal_text(answer.reply.refusal)
+        return refusal_text(answer.reply.refusal, some_part=answer.asked.some_part)
     if answer.part is None or not answer.part.records:
         return verdict(answer)
     names = Names(answer.asked)

@@ -42,7 +42,7 @@ def _plain(reason: str) -> dict:
 def result(pool_name: str, answer: Answer, found: Answer | None = None) -> dict:
     """`found` is the answer about some part, where the whole pool does not fit."""
     refusal = answer.reply.refusal
-    message = "\n".join(filter(None, (sentence(refusal), answer.detail))) if refusal else ""
+    message = "\n".join(filter(None, (sentence(refusal, answer.asked.some_part), answer.detail))) if refusal else ""
     if answer.kind == NO_ANSWER:
         message = f"the walk's no means nothing for a book that is not plain: {answer.not_plain}"
     return {

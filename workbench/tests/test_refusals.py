@@ -12,7 +12,13 @@ class Sentences(unittest.TestCase):
         for number, text in SENTENCES.items():
             with self.subTest(number=number):
                 self.assertIn(": ", text)
-                self.assertEqual(sentence(number), text)
+                self.assertEqual(sentence(number, some_part=True), text)
+                if number < 11:
+                    self.assertEqual(sentence(number), text)
+
+    def test_without_a_table(self):
+        """The walk is no way out where some part was asked about."""
+        self.assertEqual(sentence(11), f"{SENTENCES[11]}; or, if the book is plain, ask with --walk, which needs no table")
 
     def test_unknown(self):
         self.assertIn("does not know", sentence(12))

@@ -10,6 +10,7 @@ from workbench.model import Book, Call, Condition, Pool, Predicate, Question, Re
 from workbench.pool_bytes import encode_pool
 from workbench.question_bytes import encode_question
 from workbench.render import aligned, answer_text, next_text, short_text, sum_text
+from workbench.report_json import result
 from workbench.tests.engine_samples import FROM_TEN_TO_TEN, FROM_TEN_TO_TWENTY, H, L, NOTHING, S, TWO
 from workbench.unfolding import Line
 
@@ -207,7 +208,10 @@ class Refused(unittest.TestCase):
         # Four free arguments over some ninety kept values are far more than 65,535 facts.
         book = Book((Predicate("p", 4),), (Rule(0, ("a", "b", "c", "d")),))
         pool = Pool(tuple(Record(100 * i, (1000 * i, 2000 * i)) for i in range(1, 17)))
-        self.assertRegex(text(book, pool, Question(0, (1, 2, 3, 4))), "^refusal 11: there are more than 65,535 facts: ")
+        for some_part, end in ((False, r"ask with --walk, which needs no table\n$"), (True, r"takes every kept value\n$")):
+            answer = ask(asked(book, pool, Question(0, (1, 2, 3, 4)), some_part))
+            for said in (answer_text(answer), f"{short_text(answer)}\n", f"refusal 11: {result('p', answer)['message']}\n"):
+                self.assertRegex(said, f"^refusal 11: there are more than 65,535 facts: .*{end}")
 
     def test_more_than_the_first_table(self):
         # Three free arguments over 13 kept values: 2,197 facts for q, and those for p.
