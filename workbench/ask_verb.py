@@ -5,7 +5,7 @@ from argparse import ArgumentParser
 from collections.abc import Callable
 
 from workbench import report_json
-from workbench.asking import DOES_NOT_FIT, FITS, NO_ANSWER, REFUSED, Answer, Asked, ask, ask_next
+from workbench.asking import DOES_NOT_FIT, FITS, NOT_ANSWERED, REFUSED, Answer, Asked, ask, ask_next
 from workbench.mistake import Mistake, Unusable, printable
 from workbench.operands import one_standard_input, parsed, parser, read_noted_book, read_question
 from workbench.output import complain, say, write_file
@@ -20,9 +20,9 @@ def _parser() -> ArgumentParser:
         "ask",
         "BOOK POOL [POOL ...] QUESTION [--part | --walk] [--json] [--save FILE]",
         "Says whether a pool fits: with an unfolding where it does, with hints on where to look where it does not.\n"
-        "With --part, whether some part of its records does, and which one. With --walk, the verdict of the quick walk alone; for a\n"
-        "book that is not plain its no is no answer. Status 0: every pool fits, or a part of each; 1: some do not; 2: a refusal, no\n"
-        "answer, or something cannot be read or written.",
+        "With --part, whether some part of its records does, and which one. With --walk, the verdict of the quick walk alone: `not\n"
+        "answered` stands for its no where the book is not plain. Status 0: every pool fits, or a part of each; 1: some do not;\n"
+        "2: a refusal, a pool that is not answered, or something cannot be read or written.",
         "./shapes ask examples/segment.book examples/segment.pool 'segment(10, nil)'",
     )
     made.add_argument("--part", action="store_true", help="ask about some part of the records instead of all")
@@ -109,7 +109,7 @@ def _ask_many(operands: list[str], answer_about: Callable[[str], Answer], some_p
             answer = answer_about(file)
             kind, words = answer.kind, short_text(answer)
             empty += answer.part is not None and not answer.part.records
-            if answer.asked.by_walk and kind in (DOES_NOT_FIT, NO_ANSWER):
+            if answer.asked.by_walk and kind in (DOES_NOT_FIT, NOT_ANSWERED):
                 walked_no = answer
         except Unusable:
             raise
@@ -120,7 +120,7 @@ def _ask_many(operands: list[str], answer_about: Callable[[str], Answer], some_p
         say(f"{name.ljust(max(map(len, names)))}   {words}\n")
     say(sum_text(kinds, some_part, empty) + "\n")
     if walked_no:
-        say(walk_text(walked_no, _command(operands, "ask the same without --walk")))
+        say(walk_text(walked_no, _command(operands, "ask the same without --walk"), "A pool that is not answered"))
     return status_of(kinds)
 
 

@@ -18,7 +18,7 @@ TABLE_TOO_SHORT = 11
 FITS = "fits"
 DOES_NOT_FIT = "does not fit"
 REFUSED = "refused"
-NO_ANSWER = "no answer"
+NOT_ANSWERED = "not answered"
 
 
 @dataclass(frozen=True)
@@ -55,7 +55,7 @@ class Answer:
         if self.reply.refusal:
             return REFUSED
         if self.not_plain:
-            return NO_ANSWER
+            return NOT_ANSWERED
         return FITS if self.reply.verdict else DOES_NOT_FIT
 
 

@@ -3,7 +3,7 @@ own, and it says so."""
 
 from collections.abc import Iterable
 
-from workbench.asking import DOES_NOT_FIT, FITS, NO_ANSWER, REFUSED, Answer
+from workbench.asking import DOES_NOT_FIT, FITS, NOT_ANSWERED, REFUSED, Answer
 from workbench.hints import Hints, Place, Unreached
 from workbench.names import Names
 from workbench.refusals import sentence
@@ -27,9 +27,17 @@ NO_PART_HINTS = (
 )
 NO_FIND = "the question holds without any record, which says nothing about the pool; a shape that needs a record tells more"
 LARGER = "larger parts may fit as well; whether all records do is asked without --part"
-WALK_YES = "The walk gives no unfolding to show or to save. The engine does:"
-WALK_NO = "The walk's no holds for a plain book. By the workbench's own test, which is not proved, this one is. The engine needs no such test:"
-WALK_NO_ANSWER = "The walk's no means nothing for a book that is not plain. By the workbench's own test, which is not proved, this one is not:"
+WALK_YES = "The walk gives no unfolding to show or to save. To have one, ask the engine:"
+WALK_NO = (
+    "The walk's no holds if the book is plain. The workbench finds that it is, by a test of its own that is not proved.",
+    "The engine needs no such test:",
+)
+WALK_NOT_ANSWERED = (
+    " may fit or not: the walk found no unfolding, which means nothing for a book that is not plain.",
+    "The workbench finds that this one is not, by a test of its own that is not proved:",
+)
+ASK_THE_ENGINE = "To ask the engine:"
+WHAT_IS_PLAIN = "README.md, Plain books, quickly, says what a plain book is."
 ORDINALS = ("first", "second", "third", "fourth")
 
 
@@ -59,10 +67,15 @@ def next_text(found: Answer, command: str) -> str:
     return "".join(row + "\n" for row in rows)
 
 
-def walk_text(answer: Answer, command: str) -> str:
-    """What an answer of the walk is worth, so that nobody takes it for more. The command asks the engine."""
-    rows = {FITS: [WALK_YES], DOES_NOT_FIT: [WALK_NO], NO_ANSWER: [WALK_NO_ANSWER, f"  {answer.not_plain}", "The engine answers:"]}
-    return "".join(row + "\n" for row in [*rows[answer.kind], f"  {command}"])
+def walk_text(answer: Answer, command: str, pool: str = "The pool") -> str:
+    """What an answer of the walk is worth, so that nobody takes it for more. The command asks the engine. `pool` begins a sentence about
+    one that is not answered."""
+    if answer.kind == NOT_ANSWERED:
+        may, finds = WALK_NOT_ANSWERED
+        rows = [pool + may, finds, f"  {answer.not_plain}", ASK_THE_ENGINE, f"  {command}", WHAT_IS_PLAIN]
+    else:
+        rows = [*(WALK_NO if answer.kind == DOES_NOT_FIT else [WALK_YES]), f"  {command}"]
+    return "".join(row + "\n" for row in rows)
 
 
 def _part_rows(answer: Answer, *more: list[str]) -> list[str]:
@@ -93,14 +106,14 @@ def short_text(answer: Answer) -> str:
 def sum_text(kinds: list[str], some_part: bool = False, empty: int = 0) -> str:
     """What came of all pools, by kind; kinds of which there is none are left out, except that of a pool that fits. Of so many the part is
     the empty one, which is no find."""
-    fit, not_fit, no_answer, refused = (kinds.count(kind) for kind in (FITS, DOES_NOT_FIT, NO_ANSWER, REFUSED))
-    not_read = len(kinds) - fit - not_fit - no_answer - refused
+    fit, not_fit, not_answered, refused = (kinds.count(kind) for kind in (FITS, DOES_NOT_FIT, NOT_ANSWERED, REFUSED))
+    not_read = len(kinds) - fit - not_fit - not_answered - refused
     if some_part:
         said = [f"{fit} with a part that fits" + f" ({empty} of them with the empty one)" * bool(empty)] + [f"{not_fit} without"] * bool(not_fit)
     else:
         said = [f"{fit} fits" if fit == 1 else f"{fit} fit"]
         said += [f"{not_fit} does not" if not_fit == 1 else f"{not_fit} do not"] * bool(not_fit)
-    said += [f"{no_answer} without an answer"] * bool(no_answer)
+    said += [f"{not_answered} not answered"] * bool(not_answered)
     said += [f"{refused} refused"] * bool(refused) + [f"{not_read} not read"] * bool(not_read)
     return f"{count(len(kinds), 'pool')}: {', '.join(said)}"
 
@@ -131,7 +144,7 @@ def aligned(rows: Iterable[list[str]]) -> list[str]:
 
 def _hint_rows(answer: Answer) -> list[str]:
     """None where it is not said that the pool does not fit."""
-    if answer.kind == NO_ANSWER:
+    if answer.kind == NOT_ANSWERED:
         return []
     some_part = answer.asked.some_part
     if not answer.hints:

@@ -3,7 +3,7 @@ form a new number."""
 
 import json
 
-from workbench.asking import NO_ANSWER, Answer
+from workbench.asking import NOT_ANSWERED, Answer
 from workbench.hints import Hints, Place
 from workbench.mistake import Mistake
 from workbench.model import Book, Question
@@ -43,8 +43,8 @@ def result(pool_name: str, answer: Answer, found: Answer | None = None) -> dict:
     """`found` is the answer about some part, where the whole pool does not fit."""
     refusal = answer.reply.refusal
     message = "\n".join(filter(None, (sentence(refusal, answer.asked.some_part), answer.detail))) if refusal else ""
-    if answer.kind == NO_ANSWER:
-        message = f"the walk's no means nothing for a book that is not plain: {answer.not_plain}"
+    if answer.kind == NOT_ANSWERED:
+        message = "the pool may fit or not: the walk found no unfolding, which means nothing for a book that is not plain: " + answer.not_plain
     return {
         "pool": _unicode(pool_name),
         "answer": answer.kind,

@@ -14,7 +14,7 @@ from random import Random
 from unittest import mock
 
 from workbench import library
-from workbench.asking import DOES_NOT_FIT, FITS, NO_ANSWER, REFUSED, Answer, ask, ask_next
+from workbench.asking import DOES_NOT_FIT, FITS, NOT_ANSWERED, REFUSED, Answer, ask, ask_next
 from workbench.book_bytes import encode_book
 from workbench.library import ROOT, Reply
 from workbench.model import EQUAL, NIL, UNEQUAL, Book, Call, Cell, Condition, Pool, Predicate, Question, Rule
@@ -50,7 +50,8 @@ class Answers(unittest.TestCase):
         answer = walked(PLAIN, CHAIN, FROM_TEN_TO_NIL)
         self.assertEqual((answer.kind, answer.lines, answer.not_plain), (FITS, (), ""))
         self.assertEqual(answer_text(answer), "fits\n")
-        self.assertEqual(walk_text(answer, "COMMAND"), "The walk gives no unfolding to show or to save. The engine does:\n  COMMAND\n")
+        due = "The walk gives no unfolding to show or to save. To have one, ask the engine:\n  COMMAND\n"
+        self.assertEqual(walk_text(answer, "COMMAND"), due)
 
     def test_a_yes_for_a_book_that_is_not_plain_is_a_yes(self):
         with saying(1):
@@ -67,23 +68,27 @@ class Answers(unittest.TestCase):
         )
         self.assertEqual(
             walk_text(answer, "COMMAND"),
-            "The walk's no holds for a plain book. By the workbench's own test, which is not proved, this one is. "
+            "The walk's no holds if the book is plain. The workbench finds that it is, by a test of its own that is not proved.\n"
             "The engine needs no such test:\n"
             "  COMMAND\n",
         )
 
-    def test_no_answer_where_it_is_not(self):
+    def test_not_answered_where_it_is_not(self):
         """And no hints: the pool may fit."""
         answer = walked(L, TWO, Question(0, (10, 5)))
-        self.assertEqual((answer.kind, bool(answer.hints)), (NO_ANSWER, False))
-        self.assertEqual(answer_text(answer), "no answer\n")
-        self.assertEqual(
-            walk_text(answer, "COMMAND"),
-            "The walk's no means nothing for a book that is not plain. By the workbench's own test, which is not proved, this one is not:\n"
+        self.assertEqual((answer.kind, bool(answer.hints)), (NOT_ANSWERED, False))
+        self.assertEqual(answer_text(answer), "not answered\n")
+        due = (
+            " may fit or not: the walk found no unfolding, which means nothing for a book that is not plain.\n"
+            "The workbench finds that this one is not, by a test of its own that is not proved:\n"
             "  the conditions of rules 1 and 2 of segment (lines 3 and 4) can both be met, for example by segment(1, 1)\n"
-            "The engine answers:\n"
-            "  COMMAND\n",
+            "To ask the engine:\n"
+            "  COMMAND\n"
+            "README.md, Plain books, quickly, says what a plain book is.\n"
         )
+        self.assertEqual(walk_text(answer, "COMMAND"), f"The pool{due}")
+        self.assertEqual(walk_text(answer, "COMMAND", "Any of them"), f"Any of them{due}")
+        self.assertIn("\n## Plain books, quickly\n", (ROOT / "README.md").read_text())
 
     def test_refused(self):
         whole = replace(asked(PLAIN, TWO, FROM_TEN_TO_TWENTY), book_bytes=encode_book(PLAIN)[:-1], book=None, by_walk=True)
@@ -98,19 +103,20 @@ class Answers(unittest.TestCase):
                 self.assertIsNone(ask_next(walked(book, CHAIN, question)))
 
     def test_rows_and_sums(self):
-        self.assertEqual([short_text(walked(book, TWO, FROM_TEN_TO_TWENTY)) for book in (PLAIN, L)], ["does not fit", "no answer"])
-        self.assertEqual(sum_text([FITS, NO_ANSWER, NO_ANSWER]), "3 pools: 1 fits, 2 without an answer")
-        self.assertEqual(sum_text([NO_ANSWER, REFUSED, "not read"]), "3 pools: 0 fit, 1 without an answer, 1 refused, 1 not read")
+        self.assertEqual([short_text(walked(book, TWO, FROM_TEN_TO_TWENTY)) for book in (PLAIN, L)], ["does not fit", "not answered"])
+        self.assertEqual(sum_text([FITS, NOT_ANSWERED, NOT_ANSWERED]), "3 pools: 1 fits, 2 not answered")
+        self.assertEqual(sum_text([NOT_ANSWERED, REFUSED, "not read"]), "3 pools: 0 fit, 1 not answered, 1 refused, 1 not read")
 
 
 class Json(unittest.TestCase):
     def test_three_cases(self):
         reason = not_plain(L)
+        nothing = "the pool may fit or not: the walk found no unfolding, which means nothing for a book that is not plain"
         for book, verdict, answer, message, plain in (
             (PLAIN, 1, "fits", "", {"holds": True, "reason": ""}),
             (PLAIN, 0, "does not fit", "", {"holds": True, "reason": ""}),
             (L, 1, "fits", "", {"holds": False, "reason": reason}),
-            (L, 0, "no answer", f"the walk's no means nothing for a book that is not plain: {reason}", {"holds": False, "reason": reason}),
+            (L, 0, "not answered", f"{nothing}: {reason}", {"holds": False, "reason": reason}),
         ):
             with self.subTest(answer=answer, plain=plain), saying(verdict):
                 found = result("two.pool", walked(book, TWO, FROM_TEN_TO_TWENTY))
@@ -149,22 +155,22 @@ class Command(unittest.TestCase):
             for more in ([], ["--json"]):
                 self.assertEqual(run_inside("ask", "--walk", *QUEUE, *more)[0], 2)
 
-    def test_a_pool_that_fits_and_has_no_answer(self):
+    def test_a_pool_that_fits_and_is_not_answered(self):
         """The command offered has the answer."""
         with saying(0):
             status, out, said = run_inside("ask", "--walk", *QUEUE)
         self.assertEqual((status, said), (2, ""))
-        first, *_, reason, ahead, command = out.decode().splitlines()
-        self.assertEqual((first, reason, ahead), ("no answer", f"  {REASON}", "The engine answers:"))
+        first, *_, reason, ahead, command, _ = out.decode().splitlines()
+        self.assertEqual((first, reason, ahead), ("not answered", f"  {REASON}", "To ask the engine:"))
         self.assertEqual(command, f"  ./shapes ask {QUEUE[0]} {QUEUE[1]} '{QUEUE[2]}'")
         done = subprocess.run(["sh", "-c", command], cwd=ROOT, capture_output=True, check=False, timeout=60)
         self.assertEqual((done.returncode, done.stdout[:5], done.stderr), (0, b"fits\n", b""))
 
-    def test_json_of_a_pool_that_fits_and_has_no_answer(self):
+    def test_json_of_a_pool_that_fits_and_is_not_answered(self):
         with saying(0):
             whole = json.loads(run_inside("ask", "--walk", *QUEUE, "--json")[1])
         self.assertEqual((whole["about"], whole["by"], whole["plain"]), ("whole", "walk", {"holds": False, "reason": REASON}))
-        self.assertEqual([found["answer"] for found in whole["results"]], ["no answer"])
+        self.assertEqual([found["answer"] for found in whole["results"]], ["not answered"])
 
     def test_several_pools(self):
         pools = ["examples/segment.pool", "examples/circle.pool", "examples/mistakes/same-address.pool"]
@@ -173,8 +179,8 @@ class Command(unittest.TestCase):
         rows = out.decode().splitlines()
         self.assertEqual([row.split("   ")[-1].strip() for row in rows[:3]], ["fits", "does not fit", "not read"])
         self.assertEqual(rows[3], "3 pools: 1 fits, 1 does not, 1 not read")
-        self.assertRegex(rows[4], "^The walk's no holds for a plain book. ")
-        self.assertEqual(rows[5:], [f"  ./shapes ask {FIT[0]} {' '.join(pools)} 'segment(10, nil)'"])
+        self.assertRegex(rows[4], "^The walk's no holds if the book is plain. ")
+        self.assertEqual(rows[5:], ["The engine needs no such test:", f"  ./shapes ask {FIT[0]} {' '.join(pools)} 'segment(10, nil)'"])
         status, out, _ = run_inside("ask", "--walk", FIT[0], *pools[:2], "segment(10, nil)", "--json")
         self.assertEqual((status, [found["answer"] for found in json.loads(out)["results"]]), (1, ["fits", "does not fit"]))
 
@@ -182,14 +188,15 @@ class Command(unittest.TestCase):
         status, out, _ = run_inside("ask", "--walk", FIT[0], FIT[1], FIT[1], FIT[2])
         self.assertEqual((status, out.decode().splitlines()[2:]), (0, ["2 pools: 2 fit"]))
 
-    def test_several_pools_without_an_answer(self):
+    def test_several_pools_that_are_not_answered(self):
         """What a no is worth stands there once, and a yes among them is a yes."""
         with mock.patch.object(library, "walk", side_effect=[(0, 0), (0, 1), (0, 0)]):
             status, out, _ = run_inside("ask", "--walk", QUEUE[0], *[QUEUE[1]] * 3, QUEUE[2])
         rows = out.decode().splitlines()
-        self.assertEqual((status, rows[3]), (2, "3 pools: 1 fits, 2 without an answer"))
-        self.assertEqual([row.split("   ")[-1].strip() for row in rows[:3]], ["no answer", "fits", "no answer"])
-        self.assertEqual((rows[5], len(rows)), (f"  {REASON}", 8))
+        self.assertEqual((status, rows[3]), (2, "3 pools: 1 fits, 2 not answered"))
+        self.assertEqual([row.split("   ")[-1].strip() for row in rows[:3]], ["not answered", "fits", "not answered"])
+        self.assertRegex(rows[4], "^A pool that is not answered may fit or not: ")
+        self.assertEqual((rows[6], len(rows)), (f"  {REASON}", 10))
 
     def test_what_cannot_be_asked_at_once(self):
         path = self.folder / "unfolding"
