@@ -1,3 +1,3 @@
-"""The exit statuses: the answer yes, the answer no, and no answer."""
+"""The exit statuses: the answer yes, the answer no, and neither."""
 
 YES, NO, FAULT = 0, 1, 2
