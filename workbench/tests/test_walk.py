@@ -1,10 +1,12 @@
 """Answers of the quick walk: a yes, a no that holds since the book is plain, a no that means nothing, refusals, and mistakes."""
 
+import contextlib
 import json
 import os
 import subprocess
 import sys
 import tempfile
+import textwrap
 import unittest
 from collections import Counter
 from dataclasses import replace
@@ -16,17 +18,21 @@ from unittest import mock
 from workbench import library
 from workbench.asking import DOES_NOT_FIT, FITS, NOT_ANSWERED, REFUSED, Answer, ask, ask_next
 from workbench.book_bytes import encode_book
+from workbench.book_text import parse_book
 from workbench.library import ROOT, Reply
 from workbench.model import EQUAL, NIL, UNEQUAL, Book, Call, Cell, Condition, Pool, Predicate, Question, Rule
 from workbench.plain import not_plain
 from workbench.pool_bytes import encode_pool
+from workbench.pool_text import parse_pool
 from workbench.question_bytes import encode_question
+from workbench.question_text import parse_question
 from workbench.render import answer_text, short_text, sum_text, walk_text
 from workbench.report_json import report, result
 from workbench.tests.engine_samples import CHAIN, FROM_TEN_TO_NIL, FROM_TEN_TO_TWENTY, H, L, PLAIN, TWO
 from workbench.tests.samples import repository_blocks
 from workbench.tests.test_asking import some_book, some_chains, some_pool
 from workbench.tests.test_cli import COMMAND, run_inside
+from workbench.tests.test_plain import reason
 from workbench.tests.test_render import asked
 
 # This fits, and the walk says no: it never unfolds the rule asked about, which has calls and no cell.
@@ -238,6 +244,65 @@ class Command(unittest.TestCase):
         for book in (FIT[0], "house"):
             status, out, said = run_inside("ask", "--walk", book, str(pool), "segment(10, nil)")
             self.assertEqual((status, out[:10], out.count(b"\n"), said), (2, b"refusal 7:", 2, ""))
+
+
+class Documented(unittest.TestCase):
+    """What docs/WORKBENCH.md says about the walk."""
+
+    TEXT = (ROOT / "docs/WORKBENCH.md").read_text()
+    SEGMENT = "segment { a = b => segment(a, b) | a != b * a -> c * segment(c, b) => segment(a, b) } ; "
+    TREE = "tree { a = nil => tree(a, up) | a != nil * a -> (up, l, r) * tree(l, a) * tree(r, a) => tree(a, up) } ; "
+
+    def verdict(self, book_text: str, pool_text: str, question_text: str, plain: bool = True) -> str:
+        """The walk's, where it is also the engine's, or the book is not plain."""
+        book, pool = parse_book(book_text, "book"), parse_pool(pool_text, "pool")
+        question = parse_question(question_text, book)
+        found = walked(book, pool, question).kind
+        self.assertEqual(not not_plain(book), plain)
+        if plain:
+            self.assertEqual(found, ask(asked(book, pool, question)).kind)
+        return found
+
+    def test_the_answer_shown(self):
+        block = self.TEXT.split("### The quick walk\n\n")[1].split("\n\n")[0]
+        with contextlib.chdir(ROOT):
+            self.assertEqual(run_inside("ask", "--walk", *QUEUE)[1].decode(), textwrap.dedent(block) + "\n")
+
+    def test_a_call_without_a_cell(self):
+        rule = "a -> (nil, l, r) * tree(l, a) * tree(r, a) => root(a)"
+        self.assertIn(f"`{rule}`", self.TEXT)
+        pool = "10: nil, 20, 30\n20: 10, nil, nil\n30: 10, nil, nil"
+        self.assertEqual(self.verdict(f"{self.TREE} root {{ tree(a, nil) => root(a) }}", pool, "root(10)", plain=False), NOT_ANSWERED)
+        self.assertEqual(self.verdict(self.TREE, pool, "tree(10, nil)"), FITS)
+        for root, due in ((10, FITS), (20, DOES_NOT_FIT)):
+            self.assertEqual(self.verdict(f"{self.TREE} root {{ {rule} }}", pool, f"root({root})"), due)
+
+    def test_rules_that_differ_in_a_field(self):
+        rule = "q -> (h, t) * body(h, t) => queue(q)"
+        self.assertIn(f"`{rule}`", self.TEXT)
+        cases = "%sh = nil * t = nil => %s | %sh != nil * t -> nil * segment(h, t) => %s"
+        once = f"queue {{ {cases % ('q -> (h, t) * ', 'queue(q)', 'q -> (h, t) * ', 'queue(q)')} }}"
+        handed_on = f"queue {{ {rule} }} ; body {{ {cases % ('', 'body(h, t)', '', 'body(h, t)')} }}"
+        fit = "1: nil, nil", "1: 2, 2\n2: nil", "1: 2, 3\n2: 3\n3: nil"
+        for pool, due in (*((each, FITS) for each in fit), ("1: 2, nil\n2: nil", DOES_NOT_FIT)):
+            self.assertEqual(self.verdict(self.SEGMENT + handed_on, pool, "queue(1)"), due)
+            self.assertEqual(self.verdict(self.SEGMENT + once, pool, "queue(1)", plain=False), due if due == FITS else NOT_ANSWERED)
+
+    def test_rules_that_differ_in_a_size(self):
+        self.assertRegex(reason("p { a -> n => p(a) | a -> (n, m) => p(a) }"), r"can both be met, for example by p\(1\)$")
+
+    def test_a_ring(self):
+        ring = "ring { a -> n * segment(n, a) => ring(a) }"
+        self.assertIn(f"`{ring}`", self.TEXT)
+        circle = "10: 20\n20: 10"
+        self.assertEqual(self.verdict(self.SEGMENT + ring, circle, "segment(10, 10)"), DOES_NOT_FIT)
+        self.assertEqual(self.verdict(self.SEGMENT + ring, circle, "ring(10)"), FITS)
+        self.assertEqual(self.verdict(self.SEGMENT + ring, "10: 10", "ring(10)"), FITS)
+        self.assertEqual(ask(asked(L, TWO, Question(0, (10, 10)))).kind, FITS)
+
+    def test_rules_that_the_question_never_comes_to(self):
+        book = f"{self.TREE} other {{ tree(a, nil) => other(a) }}"
+        self.assertEqual(self.verdict(book, "10: nil, nil, nil\n20: nil, nil, nil", "tree(10, nil)", plain=False), NOT_ANSWERED)
 
 
 def plain_book(chance: Random) -> Book:
