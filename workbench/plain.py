@@ -1,4 +1,4 @@
-"""Whether a book is plain: each rule with calls has a cell, every variable is fixed, and no arguments meet the conditions of two rules. For a
+"""Whether a book is plain: a rule that calls has a cell too, no variable is left to guess, and no arguments meet the conditions of two rules. For a
 plain book a no of the quick walk says that the pool does not fit; for another it says nothing. This test is the workbench's own and not
 proved, and the walk does not make it."""
 
