@@ -1,5 +1,5 @@
 pub mod Arguments
-pub mod Conditions
+pub mod WholeMask
 pub mod TakingRecords
 pub mod Trying
 pub mod Descending

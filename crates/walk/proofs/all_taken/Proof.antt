@@ -4,7 +4,7 @@ use lib.Pow.{pow-lt}
 use mathlib.Core.Path.{refl}
 use Prim.Native.Nat.{_<_}
 use borrow.Author.Needs.{needs}
-use Rattle.walk.proofs.Conditions.{whole-told}
+use Rattle.walk.proofs.WholeMask.{whole-told}
 use Rattle.walk.proofs.all_taken.Statement.{statement}
 use Rattle.walk.proofs.all_taken.Tie as tie
 
