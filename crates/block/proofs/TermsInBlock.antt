@@ -5,7 +5,7 @@ use native.Mathlib.Omega.{arith}
 use lib.{ListN.length, ListN.getD, ListN.List·getD-eq-default, Dec.eqb}
 use borrow.Author.Tests.{eq-eqb, ne-eqb, lt-ltb, le-ltb}
 use Rattle.semantics.specs.{Heap.Record, Tree.valueOf, Tree.valuesOf, Tree.Compare, Tree.Meets, Tree.asked}
-use Rattle.words.specs.{Entries.tabulate, Entries.entries, Subheap.Told}
+use Rattle.words.specs.{Entries.tabulate, Entries.entries, Told.Told}
 use Rattle.words.proofs.{Answers.told-as, Answers.told-equal, Answers.told-unequal, Tabulate.tabulate-length, Tabulate.tabulate-at, Tabulate.tabulate-same, Tabulate.tabulate-map}
 use Rattle.block.specs.Layout.{termIn, kindIn, pureIn, atomIn, recordIn, purePlace, pureKind, pureLeft, pureRight, atomPlace, atomAddress, atomSize, atomField, recordPlace, recordAddress, recordSize, recordField}
 

@@ -2,40 +2,39 @@
 use mathlib.Core.{Path._≡_, Path.refl, List.List, List.[], List._∷_, List.List·Memᴰ·head, List.List·Memᴰ·tail}
 use Prim.Native.Nat.{ℕ, _+_, _<_}
 use native.Mathlib.Omega.{arith}
-use lib.Bits.{bitAnd, and-zero-l, and-zero-r}
-use Rattle.semantics.specs.{Heap.Joins, Lists._among_}
-use Rattle.words.proofs.Disjoint.{apart-split, apart-join, sum-small}
+use Rattle.semantics.specs.{Heap.Disjoint, Heap.Joins, Lists._among_}
+use Rattle.words.proofs.Disjoint.{disjoint-comm, disjoint-none, disjoint-split, disjoint-join, sum-small}
 
 -- The subheaps, joined one by one to those used, make up the whole.
 pub data Onto : List ℕ → ℕ → ℕ → Type 0 where
   none : {used whole : ℕ} → used ≡ whole → Onto [] used whole
-  next : {part used whole : ℕ} {parts : List ℕ} → bitAnd part used ≡ 0 → Onto parts (part + used) whole → Onto (part ∷ parts) used whole
+  next : {part used whole : ℕ} {parts : List ℕ} → Disjoint part used → Onto parts (part + used) whole → Onto (part ∷ parts) used whole
 
 record Rest (parts : List ℕ) (used whole : ℕ) : Type 0 where
   pub rest : ℕ
   pub joins : Joins parts rest
-  pub apart : bitAnd used rest ≡ 0
+  pub apart : Disjoint used rest
   pub sum : whole ≡ used + rest
 
 onto-rest : {parts : List ℕ} {used whole : ℕ} → Onto parts used whole → Rest parts used whole
-onto-rest {used = used} (Onto.none e) = record { rest = 0; joins = Joins.none; apart = and-zero-r used; sum = omega arith }
+onto-rest {used = used} (Onto.none e) = record { rest = 0; joins = Joins.none; apart = disjoint-none used; sum = omega arith }
 onto-rest {used = used} (Onto.next {part = part} h o) =
     let r = onto-rest o in
-    let (a, b) = apart-join part used (r .rest) h (r .apart) in
+    let (a, b) = disjoint-join part used (r .rest) h (r .apart) in
     record { rest = part + r .rest; joins = Joins.next a (r .joins) refl; apart = b; sum = omega (arith, r .sum) }
 
 pub onto-joins : (parts : List ℕ) (whole : ℕ) → Onto parts 0 whole → Joins parts whole
 onto-joins parts whole o = let r = onto-rest o in let e : r .rest ≡ whole = omega (arith, r .sum) in rw e at (r .joins)
 
-joins-rest : {parts : List ℕ} {rest : ℕ} → Joins parts rest → (used whole : ℕ) → bitAnd used rest ≡ 0 → whole ≡ used + rest → Onto parts used whole
+joins-rest : {parts : List ℕ} {rest : ℕ} → Joins parts rest → (used whole : ℕ) → Disjoint used rest → whole ≡ used + rest → Onto parts used whole
 joins-rest Joins.none used whole h e = Onto.none {used = used} {whole = whole} (omega arith)
 joins-rest (Joins.next {part = part} {rest = rest} a j w) used whole h e =
-    let h′ : bitAnd used (part + rest) ≡ 0 = rw w at h in
-    let (p, q) = apart-split part used rest a h′ in
+    let h′ : Disjoint used (part + rest) = rw w at h in
+    let (p, q) = disjoint-split part used rest a h′ in
     Onto.next p (joins-rest j (part + used) whole q (omega arith))
 
 pub joins-onto : (parts : List ℕ) (whole : ℕ) → Joins parts whole → Onto parts 0 whole
-joins-onto parts whole j = joins-rest j 0 whole (and-zero-l whole) (omega arith)
+joins-onto parts whole j = joins-rest j 0 whole (disjoint-comm (disjoint-none whole)) (omega arith)
 
 -- ---- sizes
 

@@ -2,9 +2,9 @@
 use mathlib.Core.{Path._≡_, Path.sym, Path.ap₂, Path._∙_, List.List, List.[], List._∷_, Logic._↔_}
 use Prim.Native.Nat.{ℕ, _+_, _/_, _%_, _^_, _≤_, _<_}
 use native.Mathlib.{Omega.arith, Numerals.add-one, Decide.decLt}
-use lib.{ListN.take, ListN.drop, ListN.drop-of-length-le, Seq.drop-cons, Dec.eqb, Bits.bitAnd}
-use Rattle.semantics.specs.{Certificate.factAt, Certificate.positionsAt, Fact.code, Fact.partOf, Heap.Record, RuleSet.Call, Tree.valuesOf, Tree.asked}
-use Rattle.words.specs.{Entries.tabulate, Subheap.Told}
+use lib.{ListN.take, ListN.drop, ListN.drop-of-length-le, Seq.drop-cons, Dec.eqb}
+use Rattle.semantics.specs.{Certificate.factAt, Certificate.positionsAt, Fact.code, Fact.partOf, Heap.Record, Heap.Disjoint, RuleSet.Call, Tree.valuesOf, Tree.asked}
+use Rattle.words.specs.{Entries.tabulate, Told.Told}
 use Rattle.block.specs.Layout.{atomIn, callIn, ruleIn, atomCount, callCount, atomPlace, callPlace, headIn, headArity, recordCount}
 use Rattle.words.proofs.Tabulate.{tabulate-length, tabulate-at}
 use Rattle.certificate.specs.Line.{givenBy, FirstRecord, FoundRecord, CallsLine, CallsJoin, AtomsJoin}
@@ -37,7 +37,7 @@ CallsFrom rules rule words k σ part c lines used = CallsJoin words k σ part (d
 -- what the first of them says
 pub record FirstCall (rules : List ℕ) (rule : ℕ) (words : List ℕ) (k : ℕ) (σ : List ℕ) (part c lines used : ℕ) : Type 0 where
   pub line : CallsLine words k σ (callIn rules (callPlace rule c)) (lines % 65536)
-  pub apart : bitAnd (partOf (factAt words (lines % 65536))) used ≡ 0
+  pub apart : Disjoint (partOf (factAt words (lines % 65536))) used
   pub rest : CallsFrom rules rule words k σ part (c + 1) (lines / 65536) (partOf (factAt words (lines % 65536)) + used)
 
 module _ (rules : List ℕ) (rule c : ℕ) {words : List ℕ} {k : ℕ} {σ : List ℕ} {part lines used : ℕ} where
@@ -80,7 +80,7 @@ AtomsFrom rules rule records σ after g used = AtomsJoin records σ after (drop 
 -- what the first of them says, if it takes record i
 pub record FirstAtom (rules : List ℕ) (rule : ℕ) (records σ : List ℕ) (after : ℕ → Type 0) (g i used : ℕ) : Type 0 where
   pub takes : FirstRecord records (asked σ (atomIn rules (atomPlace rule g))) i
-  pub apart : bitAnd (2 ^ i) used ≡ 0
+  pub apart : Disjoint (2 ^ i) used
   pub rest : AtomsFrom rules rule records σ after (g + 1) (2 ^ i + used)
 
 module _ (rules : List ℕ) (rule g : ℕ) {records σ : List ℕ} {after : ℕ → Type 0} {used : ℕ} where

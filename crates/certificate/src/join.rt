@@ -22,7 +22,7 @@ ghost use Prim.Native.Nat.{_*_, _^_, _≤_, _<_};
 ghost use lib.ListN.{length, getD};
 ghost use Rattle.semantics.specs.Fact.{code};
 ghost use Rattle.semantics.specs.Tree.{valuesOf};
-ghost use Rattle.words.specs.Subheap.{Told};
+ghost use Rattle.words.specs.Told.{Told};
 ghost use Rattle.block.specs.Layout.{callIn, callCount, callPlace, recordCount};
 ghost use Rattle.block.specs.Ready.{Formed};
 ghost use Rattle.certificate.specs.Line.{givenBy, CallsLine, CallsOf, JoinOf};

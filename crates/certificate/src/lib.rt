@@ -22,7 +22,7 @@ use words::wide;
 ghost use mathlib.Core.Bool.{Bool};
 ghost use Prim.Native.Nat.{_*_, _≤_};
 ghost use lib.ListN.{length};
-ghost use Rattle.words.specs.Subheap.{Told};
+ghost use Rattle.words.specs.Told.{Told};
 ghost use Rattle.block.specs.Layout.{recordCount};
 ghost use Rattle.block.specs.Ready.{Represents, Ready, Formed};
 ghost use Rattle.certificate.specs.Line.{InstanceIn, LineIn, Judges};

@@ -5,7 +5,7 @@ ghost use mathlib.Core.Bool.{Bool};
 ghost use Prim.Native.Nat.{_*_, _≤_};
 ghost use lib.ListN.{length};
 ghost use Rattle.semantics.specs.Certificate.{factAt, positionsAt, ruleAt};
-ghost use Rattle.words.specs.Subheap.{Told};
+ghost use Rattle.words.specs.Told.{Told};
 ghost use Rattle.certificate.specs.Line.{Positions};
 
 // The fact of line k.

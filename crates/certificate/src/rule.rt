@@ -25,7 +25,7 @@ ghost use lib.ListN.{getD, take};
 ghost use Rattle.semantics.specs.Fact.{code};
 ghost use Rattle.semantics.specs.Tree.{valueOf, valuesOf, Meets, asked};
 ghost use Rattle.words.specs.Entries.{entries};
-ghost use Rattle.words.specs.Subheap.{Told};
+ghost use Rattle.words.specs.Told.{Told};
 ghost use Rattle.block.specs.Layout.{termIn, pureIn, atomIn, recordIn, headIn, headArity, pureCount, atomCount, recordCount, purePlace, atomPlace, recordPlace, heapSize, ruleSetSize};
 ghost use Rattle.block.specs.Ready.{Formed};
 ghost use Rattle.certificate.specs.Line.{givenBy, PuresHold, FoundRecord};

@@ -2,7 +2,7 @@
 use mathlib.Core.{Path._≡_, Path.refl, Path.sym, Path.ap, Path._∙_, Logic._≢_, Logic._⊎_, Logic.⊎-elim, Logic.by-cases}
 use mathlib.Core.List.{List, [], _∷_, _++_, List·Memᴰ·head, List·Memᴰ·tail, List·Memᴰ·cases-cons, List·Memᴰ·not-nil, Memᴰ·append-left, Memᴰ·append-right, List·Memᴰ·append-cases, Memᴰ·cast}
 use Prim.Native.Nat.{ℕ, zero, suc, _+_, _-_, _/_, _%_, _^_, _≤_, _<_, min}
-use native.Mathlib.{Nat.pow-suc, Omega.arith, Decide.ℕ-discrete, Decide.decLt}
+use native.Mathlib.{Nat.pow-suc, Nat.pow-succ', Nat.div-div-eq-div-mul, Nat.div-one, Omega.arith, Decide.ℕ-discrete, Decide.decLt}
 use lib.{Pow.pow-pos, Bits.bitAnd, Bits.and-step}
 use Rattle.semantics.specs.{Lists._among_, Lists.Distinct, Heap.setOf}
 
@@ -11,10 +11,21 @@ pub bit : ℕ → ℕ → ℕ
 bit n zero = n % 2
 bit n (suc i) = bit (n / 2) i
 
-bit-zero : (i : ℕ) → bit 0 i ≡ 0
+pub bit-zero : (i : ℕ) → bit 0 i ≡ 0
 unfolding bit
 bit-zero zero = refl
 bit-zero (suc i) = bit-zero i
+
+pub bit-few : (n i : ℕ) → bit n i ≤ 1
+unfolding bit
+bit-few n zero = omega arith
+bit-few n (suc i) = bit-few (n / 2) i
+
+-- the same by one division
+pub bit-at : (n i : ℕ) → n / 2 ^ i % 2 ≡ bit n i
+unfolding bit
+bit-at n zero = ap (λ (m : ℕ). m % 2) (div-one n)
+bit-at n (suc i) = ap (λ (m : ℕ). m % 2) (ap (λ (m : ℕ). n / m) (pow-succ' 2 i) ∙ sym (div-div-eq-div-mul n 2 (2 ^ i))) ∙ bit-at (n / 2) i
 
 -- adding a power whose bit is 0 sets that bit
 pub bit-add-same : (m i : ℕ) → bit m i ≡ 0 → bit (2 ^ i + m) i ≡ 1
@@ -38,16 +49,19 @@ unfolding bit
 bit-and a b zero = omega (arith, and-step a b)
 bit-and a b (suc i) = ap (λ (k : ℕ). bit k i) (omega (arith, and-step a b)) ∙ bit-and (a / 2) (b / 2) i
 
--- a number all of whose bits are 0 is 0
-no-bits : (n fuel : ℕ) → n ≤ fuel → ((i : ℕ) → bit n i ≡ 0) → n ≡ 0
+-- a number that is not 0 has a bit that is one
+some-bit-fuel : (n fuel : ℕ) → n ≤ fuel → n ≢ 0 → (i : ℕ) × (bit n i ≡ 1)
 unfolding bit
-no-bits n zero h none = omega arith
-no-bits n (suc fuel) h none =
-    let e = no-bits (n / 2) fuel (omega arith) (λ i. none (suc i)) in
-    omega (arith, none 0)
+some-bit-fuel n zero h z = absurd (z (omega arith))
+some-bit-fuel n (suc fuel) h z =
+    by-cases (ℕ-discrete (n % 2) 1) (λ p. (0, p))
+    (λ q. let (i, e) = some-bit-fuel (n / 2) fuel (omega arith) (λ e. z (omega (arith, e, q))) in (suc i, e))
 
-pub bits-zero : (n : ℕ) → ((i : ℕ) → bit n i ≡ 0) → n ≡ 0
-bits-zero n none = no-bits n n (omega arith) none
+pub some-bit : (n : ℕ) → n ≢ 0 → (i : ℕ) × (bit n i ≡ 1)
+some-bit n z = some-bit-fuel n n (omega arith) z
+
+bits-zero : (n : ℕ) → ((i : ℕ) → bit n i ≡ 0) → n ≡ 0
+bits-zero n none = by-cases (ℕ-discrete n 0) (λ e. e) (λ z. let (i, e) = some-bit n z in absurd (omega (arith, e, none i)))
 
 pub bits-below : (n k : ℕ) → ((i : ℕ) → k ≤ i → bit n i ≡ 0) → n < 2 ^ k
 unfolding bit
@@ -102,15 +116,6 @@ distinct-append [] ys dx dy apart = dy
 distinct-append (x ∷ xs) ys (Distinct.next n dx) dy apart =
     Distinct.next (λ m. ⊎-elim n (apart x (List·Memᴰ·head refl)) (List·Memᴰ·append-cases xs m))
     (distinct-append xs ys dx dy (λ i m. apart i (List·Memᴰ·tail m)))
-
--- two sets share no bit exactly if the lists share no member
-pub apart-and : (xs ys : List ℕ) → Distinct xs → Distinct ys → ((i : ℕ) → i among xs → ¬ (i among ys)) → bitAnd (setOf xs) (setOf ys) ≡ 0
-apart-and xs ys dx dy apart = bits-zero (bitAnd (setOf xs) (setOf ys))
-    (λ i. bit-and (setOf xs) (setOf ys) i ∙ by-cases (decIn i xs) (λ m. omega (arith, bit-out ys dy i (apart i m))) (λ n. omega (arith, bit-out xs dx i n)))
-
-pub and-apart : (xs ys : List ℕ) → Distinct xs → Distinct ys → bitAnd (setOf xs) (setOf ys) ≡ 0 → (i : ℕ) → i among xs → ¬ (i among ys)
-and-apart xs ys dx dy e i m k =
-    omega (arith, bit-in xs dx i m, bit-in ys dy i k, bit-and (setOf xs) (setOf ys) i, ap (λ (n : ℕ). bit n i) e, bit-zero i)
 
 -- a set of numbers below k is below 2 ^ k
 pub setOf-below : (k : ℕ) (is : List ℕ) → Distinct is → ((i : ℕ) → i among is → i < k) → setOf is < 2 ^ k

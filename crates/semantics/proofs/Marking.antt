@@ -3,9 +3,8 @@ use mathlib.Core.{Path._≡_, Path.refl, Path.sym, Logic.⊎-elim}
 use mathlib.Core.List.{List, [], _∷_, _++_, List·Memᴰ·head, List·Memᴰ·tail, List·Memᴰ·cases-cons, List·Memᴰ·not-nil, Memᴰ·cast}
 use Prim.Native.Nat.{ℕ, _+_, _^_}
 use native.Mathlib.{Omega.arith, Nat.add-zero}
-use lib.Bits.{bitAnd}
-use Rattle.semantics.specs.{Lists._among_, Lists.Distinct, Heap.setOf, WalkOutcome.Marks}
-use Rattle.semantics.proofs.Bits.{apart-and, and-apart}
+use Rattle.semantics.specs.{Lists._among_, Lists.Distinct, Heap.setOf, Heap.Disjoint, WalkOutcome.Marks}
+use Rattle.semantics.proofs.Sharing.{disjoint-lists, lists-disjoint}
 
 pub marks-append : {mask middle after : ℕ} {xs ys : List ℕ} → Marks mask xs middle → Marks middle ys after → Marks mask (xs ++ ys) after
 marks-append Marks.none m = m
@@ -28,8 +27,8 @@ pub marks-out : (xs ys : List ℕ) {after : ℕ} → Distinct ys → Marks (setO
     → (after ≡ setOf xs + setOf ys) × Distinct xs × ((i : ℕ) → i among xs → ¬ (i among ys))
 marks-out [] ys d Marks.none = (omega arith, Distinct.none, λ i m. absurd (List·Memᴰ·not-nil m))
 marks-out (x ∷ xs) ys d (Marks.next e m) =
-    let single : bitAnd (setOf (x ∷ [])) (setOf ys) ≡ 0 = rw (add-zero (2 ^ x)) e in
-    let out : ¬ (x among ys) = and-apart (x ∷ []) ys (Distinct.next List·Memᴰ·not-nil Distinct.none) d single x (List·Memᴰ·head refl) in
+    let single : Disjoint (setOf (x ∷ [])) (setOf ys) = rw (add-zero (2 ^ x)) e in
+    let out : ¬ (x among ys) = lists-disjoint (x ∷ []) ys (Distinct.next List·Memᴰ·not-nil Distinct.none) d single x (List·Memᴰ·head refl) in
     let (q, dx, apart) = marks-out xs (x ∷ ys) (Distinct.next out d) m in (
       omega arith,
       Distinct.next (λ k. apart x k (List·Memᴰ·head refl)) dx,
@@ -40,8 +39,8 @@ pub marks-in : (xs ys : List ℕ) {after : ℕ} → after ≡ setOf xs + setOf y
     → Marks (setOf ys) xs after
 marks-in [] ys {after} q dx dy apart = let e : after ≡ setOf ys = omega arith in rw e Marks.none
 marks-in (x ∷ xs) ys {after} q (Distinct.next n dx) dy apart =
-    let e : bitAnd (setOf (x ∷ [])) (setOf ys) ≡ 0 =
-    apart-and (x ∷ []) ys (Distinct.next List·Memᴰ·not-nil Distinct.none) dy
+    let e : Disjoint (setOf (x ∷ [])) (setOf ys) =
+    disjoint-lists (x ∷ []) ys (Distinct.next List·Memᴰ·not-nil Distinct.none) dy
     (λ i m. ⊎-elim (λ (p : i ≡ x). λ k. apart x (List·Memᴰ·head refl) (Memᴰ·cast (sym p) k)) (λ z. absurd (List·Memᴰ·not-nil z)) (List·Memᴰ·cases-cons m)) in
     Marks.next {after = after} (rw (add-zero (2 ^ x)) at e)
     (marks-in xs (x ∷ ys) (omega arith) dx (Distinct.next (apart x (List·Memᴰ·head refl)) dy)

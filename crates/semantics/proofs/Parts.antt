@@ -3,10 +3,11 @@ use mathlib.Core.{Path._≡_, Path.refl, Path.sym, Logic.⊎-elim}
 use mathlib.Core.List.{List, [], _∷_, _++_, map, List·Memᴰ·head, List·Memᴰ·cases-cons, List·Memᴰ·not-nil, Memᴰ·cast, List·Memᴰ·append-cases}
 use Prim.Native.Nat.{ℕ, _^_, _≤_, _<_}
 use native.Mathlib.{Omega.arith, Nat.add-zero}
-use lib.{ListN.length, Bits.bitAnd}
-use Rattle.semantics.specs.{Lists._among_, Lists.Distinct, RuleSet.RuleSet, RuleSet.PointsTo, RuleSet.Call, Heap.Heap, Heap.setOf, Heap.Joins}
+use lib.ListN.{length}
+use Rattle.semantics.specs.{Lists._among_, Lists.Distinct, RuleSet.RuleSet, RuleSet.PointsTo, RuleSet.Call, Heap.Heap, Heap.setOf, Heap.Disjoint, Heap.Joins}
 use Rattle.semantics.specs.Tree.{Takes, Tree, Forest}
-use Rattle.semantics.proofs.Bits.{apart-and, and-apart, distinct-apart, distinct-left, distinct-right, distinct-append, setOf-append, setOf-below}
+use Rattle.semantics.proofs.Sharing.{disjoint-lists, lists-disjoint}
+use Rattle.semantics.proofs.Bits.{distinct-apart, distinct-left, distinct-right, distinct-append, setOf-append, setOf-below}
 
 -- every record taken is one of the heap
 pub takes-below : {heap : Heap} {σ : List ℕ} {atoms : List PointsTo} {indices : List ℕ} → Takes heap σ atoms indices
@@ -33,7 +34,7 @@ pub joins-atoms : (indices below parts : List ℕ) → Distinct (indices ++ belo
     → Joins (map (λ (i : ℕ). 2 ^ i) indices ++ parts) (setOf (indices ++ below))
 joins-atoms [] below parts d j = j
 joins-atoms (i ∷ is) below parts (Distinct.next n d) j =
-    Joins.next (rw (add-zero (2 ^ i)) at (apart-and (i ∷ []) (is ++ below) (Distinct.next List·Memᴰ·not-nil Distinct.none) d single))
+    Joins.next (rw (add-zero (2 ^ i)) at (disjoint-lists (i ∷ []) (is ++ below) (Distinct.next List·Memᴰ·not-nil Distinct.none) d single))
     (joins-atoms is below parts d j) refl
   where
     single : (k : ℕ) → k among i ∷ [] → ¬ (k among is ++ below)
@@ -43,7 +44,7 @@ pub joins-tree : (part : ℕ) (here rest parts : List ℕ) → part ≡ setOf he
     → Joins (part ∷ parts) (setOf (here ++ rest))
 joins-tree part here rest parts e d j =
     Joins.next {part = part} {rest = setOf rest} {whole = setOf (here ++ rest)}
-    (rw e (apart-and here rest (distinct-left here rest d) (distinct-right here rest d) (distinct-apart here rest d)))
+    (rw e (disjoint-lists here rest (distinct-left here rest d) (distinct-right here rest d) (distinct-apart here rest d)))
     j
     (omega (arith, setOf-append here rest))
 
@@ -63,11 +64,11 @@ atoms-joins (i ∷ is) parts whole (Joins.next {rest = m} e j w) = step (atoms-j
       joins = r .joins;
       all-once = λ below d h.
           let (d′, h′) = r .all-once below d h in
-          let apart : bitAnd (setOf (i ∷ [])) (setOf (is ++ below)) ≡ 0 = rw (add-zero (2 ^ i), h′) e in (
-            Distinct.next (and-apart (i ∷ []) (is ++ below) (Distinct.next List·Memᴰ·not-nil Distinct.none) d′ apart i (List·Memᴰ·head refl)) d′,
+          let apart : Disjoint (setOf (i ∷ [])) (setOf (is ++ below)) = rw (add-zero (2 ^ i), h′) e in (
+            Distinct.next (lists-disjoint (i ∷ []) (is ++ below) (Distinct.next List·Memᴰ·not-nil Distinct.none) d′ apart i (List·Memᴰ·head refl)) d′,
             omega arith,
           );
     }
 
-pub tree-joins : (here rest : List ℕ) → Distinct here → Distinct rest → bitAnd (setOf here) (setOf rest) ≡ 0 → Distinct (here ++ rest)
-tree-joins here rest dh dr e = distinct-append here rest dh dr (and-apart here rest dh dr e)
+pub tree-joins : (here rest : List ℕ) → Distinct here → Distinct rest → Disjoint (setOf here) (setOf rest) → Distinct (here ++ rest)
+tree-joins here rest dh dr e = distinct-append here rest dh dr (lists-disjoint here rest dh dr e)

@@ -3,9 +3,9 @@
 use mathlib.Core.{Bool.true, Bool.false, Bool.false≢true, Path._≡_, Path.refl, Path.sym, Path.ap, Path._∙_, Path.subst, Logic._↔_, Logic._≢_}
 use mathlib.Core.{Option.none, Option.some, List.List, List.[], List._∷_, List._++_}
 use Prim.Native.Nat.{ℕ, _+_, _^_, _<_}
-use lib.{ListN.length, ListN.getD, Bits.bitAnd}
+use lib.{ListN.length, ListN.getD}
 use Rattle.semantics.specs.RuleSet.{Pure, PointsTo, Rule, RuleSet, arity}
-use Rattle.semantics.specs.{Lists._among_, Heap.Record, Heap.Heap, Heap.Ordered, Heap.blank, Tree.Meets, Tree.asked, Tree.Takes, Plain.Plain, Walk.unfolded}
+use Rattle.semantics.specs.{Lists._among_, Heap.Record, Heap.Heap, Heap.Ordered, Heap.blank, Heap.Shares, Heap.Disjoint, Tree.Meets, Tree.asked, Tree.Takes, Plain.Plain, Walk.unfolded}
 use Rattle.semantics.specs.{Found.Known, Found.Agrees, Found.AllFound, WalkOutcome.Marks, WalkOutcome.TakesFreely, WalkOutcome.Chosen, WalkOutcome.Choosable}
 use Rattle.semantics.proofs.{Addresses.address-once, UnfoldedRules.unfolded-in, UnfoldedRules.consumes-in, FoundFacts.none-open, FoundFacts.found-values}
 
@@ -16,7 +16,7 @@ record First (heap : Heap) (σ : List ℕ) (atom : PointsTo) (atoms : List Point
   pub index : ℕ
   pub below : index < length heap
   pub is : getD heap index blank ≡ asked σ atom
-  pub free : bitAnd (2 ^ index) mask ≡ 0
+  pub free : Disjoint (2 ^ index) mask
   pub others : TakesFreely heap σ atoms (2 ^ index + mask) after
 
 -- without atoms the mask stays
@@ -29,11 +29,11 @@ module _ {heap : Heap} {σ : List ℕ} {atom : PointsTo} {atoms : List PointsTo}
       record { index = i; below = h; is = e; free = f; others = record { indices = is; takes = rest; marks = m } }
 
   -- no record as it asks for is free
-  pub free-stop : ((i : ℕ) → i < length heap → getD heap i blank ≡ asked σ atom → bitAnd (2 ^ i) mask ≢ 0) → ¬ TakesFreely heap σ (atom ∷ atoms) mask after
-  free-stop taken t = let f = first-of (t .takes) (t .marks) in taken (f .index) (f .below) (f .is) (f .free)
+  pub free-stop : ((i : ℕ) → i < length heap → getD heap i blank ≡ asked σ atom → Shares (2 ^ i) mask) → ¬ TakesFreely heap σ (atom ∷ atoms) mask after
+  free-stop taken t = let f = first-of (t .takes) (t .marks) in f .free (taken (f .index) (f .below) (f .is))
 
   -- One is, and there is no other at its address.
-  pub free-next : Ordered heap → (i : ℕ) → i < length heap → getD heap i blank ≡ asked σ atom → bitAnd (2 ^ i) mask ≡ 0
+  pub free-next : Ordered heap → (i : ℕ) → i < length heap → getD heap i blank ≡ asked σ atom → Disjoint (2 ^ i) mask
       → TakesFreely heap σ (atom ∷ atoms) mask after ↔ TakesFreely heap σ atoms (2 ^ i + mask) after
   free-next ordered i below is free = (
     λ t. let f = first-of (t .takes) (t .marks) in

@@ -1,9 +1,9 @@
 -- The two loops of a walk, over the points-to atoms of a rule and over its calls: what the rest of the list comes to, from the mask of the
 -- moment, the whole list comes to from the mask at the start.
-use mathlib.Core.{Path._≡_, Path.sym, Path.subst, Logic._↔_, Logic._≢_, Option.Option, Option.none, Option.some, List.List, List.[], List._∷_}
+use mathlib.Core.{Path._≡_, Path.sym, Path.subst, Logic._↔_, Option.Option, Option.none, Option.some, List.List, List.[], List._∷_}
 use Prim.Native.Nat.{ℕ, _+_, _^_, _<_}
-use lib.{ListN.length, ListN.getD, ListN.drop, Bits.bitAnd}
-use Rattle.semantics.specs.{RuleSet.PointsTo, RuleSet.Call, RuleSet.RuleSet, Heap.Heap, Heap.Ordered, Heap.blank, Tree.valuesOf, Tree.asked}
+use lib.{ListN.length, ListN.getD, ListN.drop}
+use Rattle.semantics.specs.{RuleSet.PointsTo, RuleSet.Call, RuleSet.RuleSet, Heap.Heap, Heap.Ordered, Heap.blank, Heap.Shares, Heap.Disjoint, Tree.valuesOf, Tree.asked}
 use Rattle.semantics.specs.WalkOutcome.{TakesFreely, WalkOutcome, CallsOutcome}
 use Rattle.semantics.proofs.{WalkChoice.free-end, WalkChoice.free-stop, WalkChoice.free-next, WalkSteps.calls-end, WalkSteps.calls-stop, WalkSteps.calls-next}
 
@@ -24,11 +24,11 @@ module _ {heap : Heap} {σ : List ℕ} {atoms : List PointsTo} {mask : ℕ} wher
 
     module _ {atom : PointsTo} (here : drop g atoms ≡ atom ∷ drop (g + 1) atoms) where
       -- atom g can take none
-      pub atoms-stop : ((i : ℕ) → i < length heap → getD heap i blank ≡ asked σ atom → bitAnd (2 ^ i) now ≢ 0) → (after : ℕ) → ¬ TakesFreely heap σ atoms mask after
+      pub atoms-stop : ((i : ℕ) → i < length heap → getD heap i blank ≡ asked σ atom → Shares (2 ^ i) now) → (after : ℕ) → ¬ TakesFreely heap σ atoms mask after
       atoms-stop taken after t = free-stop taken (subst (λ (rest : List PointsTo). TakesFreely heap σ rest now after) here (left .same after .1 t))
 
       -- it takes record i
-      pub atoms-next : Ordered heap → (i : ℕ) → i < length heap → getD heap i blank ≡ asked σ atom → bitAnd (2 ^ i) now ≡ 0 → AtomsLeft heap σ atoms mask (g + 1) (2 ^ i + now)
+      pub atoms-next : Ordered heap → (i : ℕ) → i < length heap → getD heap i blank ≡ asked σ atom → Disjoint (2 ^ i) now → AtomsLeft heap σ atoms mask (g + 1) (2 ^ i + now)
       atoms-next ordered i below is free = record {
         same = λ after. (
           λ t. left .same after .0 (subst (λ (rest : List PointsTo). TakesFreely heap σ rest now after) (sym here) (free-next ordered i below is free .1 t)),

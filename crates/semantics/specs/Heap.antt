@@ -1,7 +1,7 @@
 -- Heaps (paper 01: pools; the bytes of one are a snapshot) and their subheaps (parts), which are numbers: bit i for record i.
 use mathlib.Core.{List.List, List.[], List._∷_, List._++_, Path._≡_}
-use Prim.Native.Nat.{ℕ, _+_, _-_, _≤_, _<_, _^_}
-use lib.{ListN.length, Bits.bitAnd}
+use Prim.Native.Nat.{ℕ, _+_, _-_, _/_, _%_, _≤_, _<_, _^_}
+use lib.ListN.{length}
 use Rattle.semantics.specs.Lists.{_among_}
 
 pub record Record : Type 0 where
@@ -47,8 +47,18 @@ setOf (i ∷ is) = 2 ^ i + setOf is
 abbrev pub wholeOf : Heap → ℕ
 wholeOf heap = 2 ^ length heap - 1
 
+-- Two subheaps share a record: some bit is one in both.
+pub record Shares (a b : ℕ) : Type 0 where
+  pub place : ℕ
+  pub left : a / 2 ^ place % 2 ≡ 1
+  pub right : b / 2 ^ place % 2 ≡ 1
+
+-- They share none.
+abbrev pub Disjoint : ℕ → ℕ → Type 0
+Disjoint a b = ¬ Shares a b
+
 -- The disjoint join of subheaps: no two share a record, so the union is their sum.
 pub data Joins : List ℕ → ℕ → Type 0 where
   none : Joins [] 0
-  next : {part rest whole : ℕ} {parts : List ℕ} → bitAnd part rest ≡ 0 → Joins parts rest → whole ≡ part + rest
+  next : {part rest whole : ℕ} {parts : List ℕ} → Disjoint part rest → Joins parts rest → whole ≡ part + rest
       → Joins (part ∷ parts) whole

@@ -3,14 +3,14 @@
 use mathlib.Core.Option.{Option}
 use mathlib.Core.{List.List, List.[], List._∷_, List._++_, Path._≡_, Logic._≢_}
 use Prim.Native.Nat.{ℕ, _+_, _^_, _<_}
-use lib.{ListN.length, Bits.bitAnd}
-use Rattle.semantics.specs.{RuleSet.PointsTo, RuleSet.Call, RuleSet.Rule, RuleSet.RuleSet, Heap.Heap, Plain.Plain, Walk.unfoldedOnly}
+use lib.ListN.{length}
+use Rattle.semantics.specs.{RuleSet.PointsTo, RuleSet.Call, RuleSet.Rule, RuleSet.RuleSet, Heap.Heap, Heap.Disjoint, Plain.Plain, Walk.unfoldedOnly}
 use Rattle.semantics.specs.Tree.{Takes, Applies, Tree, Forest}
 
 -- Records are taken one by one, each of them free before: the mask goes from `mask` to `after`.
 pub data Marks : ℕ → List ℕ → ℕ → Type 0 where
   none : {mask : ℕ} → Marks mask [] mask
-  next : {mask after i : ℕ} {indices : List ℕ} → bitAnd (2 ^ i) mask ≡ 0 → Marks (2 ^ i + mask) indices after → Marks mask (i ∷ indices) after
+  next : {mask after i : ℕ} {indices : List ℕ} → Disjoint (2 ^ i) mask → Marks (2 ^ i + mask) indices after → Marks mask (i ∷ indices) after
 
 -- Points-to atoms take free records.
 pub record TakesFreely (heap : Heap) (σ : List ℕ) (atoms : List PointsTo) (mask after : ℕ) : Type 0 where

@@ -3,7 +3,7 @@ use mathlib.Core.Path.{_≡_}
 use Prim.Native.Nat.{ℕ, _+_, _-_, _^_}
 use native.Mathlib.Omega.{arith}
 use lib.{Pow.pow-pos, Dec.eqb}
-use Rattle.words.specs.Subheap.{Told}
+use Rattle.words.specs.Told.{Told}
 use Rattle.words.proofs.Answers.{told-equal}
 
 -- a mask is all ones if one more is the next power

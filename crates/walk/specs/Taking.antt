@@ -1,8 +1,8 @@
 -- A rule against the values σ of its variables: its pure conditions, and the records that its points-to atoms take, each of which was free.
-use mathlib.Core.{Bool.Bool, Bool.true, Bool.false, List.List, Logic._≢_, Path._≡_}
+use mathlib.Core.{Bool.Bool, Bool.true, Bool.false, List.List, Path._≡_}
 use Prim.Native.Nat.{ℕ, _+_, _^_, _<_}
-use lib.{ListN.length, ListN.getD, Bits.bitAnd}
-use Rattle.semantics.specs.{Heap.Heap, Heap.blank, RuleSet.PointsTo, Tree.Meets, Tree.asked, WalkOutcome.TakesFreely}
+use lib.ListN.{length, getD}
+use Rattle.semantics.specs.{Heap.Heap, Heap.blank, Heap.Shares, Heap.Disjoint, RuleSet.PointsTo, Tree.Meets, Tree.asked, WalkOutcome.TakesFreely}
 use Rattle.block.specs.Layout.{pureIn, atomIn, ruleIn, heapIn, pureCount, purePlace, atomPlace}
 
 abbrev pub PuresMet : List ℕ → ℕ → List ℕ → Type 0
@@ -10,9 +10,9 @@ PuresMet rules at σ = (k : ℕ) → k < pureCount rules at → Meets σ (pureIn
 
 -- A free record is taken for an atom; or no record that it asks for is free.
 pub data TakesFree (heap : Heap) (σ : List ℕ) (atom : PointsTo) (mask : ℕ) (ok : Bool) (after : ℕ) : Type 0 where
-  taken : ok ≡ true → (i : ℕ) → i < length heap → getD heap i blank ≡ asked σ atom → bitAnd (2 ^ i) mask ≡ 0 → after ≡ 2 ^ i + mask
+  taken : ok ≡ true → (i : ℕ) → i < length heap → getD heap i blank ≡ asked σ atom → Disjoint (2 ^ i) mask → after ≡ 2 ^ i + mask
       → TakesFree heap σ atom mask ok after
-  stuck : ok ≡ false → ((i : ℕ) → i < length heap → getD heap i blank ≡ asked σ atom → bitAnd (2 ^ i) mask ≢ 0)
+  stuck : ok ≡ false → ((i : ℕ) → i < length heap → getD heap i blank ≡ asked σ atom → Shares (2 ^ i) mask)
       → TakesFree heap σ atom mask ok after
 
 abbrev pub TakesOne : List ℕ → ℕ → ℕ → List ℕ → List ℕ → ℕ → Bool → ℕ → Type 0

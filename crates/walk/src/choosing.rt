@@ -15,7 +15,7 @@ use finding::values::Values;
 use words::wide;
 ghost use mathlib.Core.Bool.{Bool};
 ghost use Prim.Native.Nat.{_<_};
-ghost use Rattle.words.specs.Subheap.{Told};
+ghost use Rattle.words.specs.Told.{Told};
 ghost use Rattle.block.specs.Layout.{predicateCount};
 ghost use Rattle.block.specs.Ready.{Formed};
 ghost use Rattle.finding.specs.Values.{Counted};

@@ -25,7 +25,7 @@ ghost use Prim.Native.Nat.{_-_, _^_, _≤_};
 ghost use lib.ListN.{length, take};
 ghost use Rattle.semantics.specs.Formats.{WellFormedInput};
 ghost use Rattle.semantics.specs.Walk.{Walks, Walked};
-ghost use Rattle.words.specs.Subheap.{Told};
+ghost use Rattle.words.specs.Told.{Told};
 ghost use Rattle.block.specs.Layout.{inputIn, ruleSetSize};
 ghost use Rattle.finding.specs.Values.{Counted};
 

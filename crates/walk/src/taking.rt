@@ -26,7 +26,7 @@ ghost use lib.ListN.{getD};
 ghost use Rattle.semantics.specs.Heap.{WellFormedHeap};
 ghost use Rattle.semantics.specs.Tree.{valuesOf, Meets, asked};
 ghost use Rattle.words.specs.Entries.{entries};
-ghost use Rattle.words.specs.Subheap.{Told};
+ghost use Rattle.words.specs.Told.{Told};
 ghost use Rattle.block.specs.Layout.{termIn, pureIn, atomIn, recordIn, heapIn, pureCount, purePlace, atomCount, atomPlace, atomAddress, recordPlace, recordAddress};
 ghost use Rattle.block.specs.Ready.{Formed, Terms};
 ghost use Rattle.walk.specs.Taking.{PuresMet, TakesOne, TakesEach};

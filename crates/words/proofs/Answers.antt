@@ -1,9 +1,15 @@
--- A test's answer: by a comparison of two numbers, and the same to an equivalent question.
-use mathlib.Core.{Bool.Bool, Bool.not, Path._≡_, Logic._≢_}
+-- A test's answer: where the fact is known, by a comparison of two numbers, and the same to an equivalent question.
+use mathlib.Core.{Bool.Bool, Bool.true, Bool.false, Bool.false≢true, Bool.not, Path._≡_, Path.sym, Logic._≢_}
 use Prim.Native.Nat.{ℕ}
 use lib.Dec.{eqb}
 use borrow.Author.Tests.{eqb-true, eqb-false, not-true, not-false}
-use Rattle.words.specs.Subheap.{Told}
+use Rattle.words.specs.Told.{Told}
+
+pub told-true : {P : Type 0} → P → Told true P
+told-true p = record { so = λ _. p; not-so = λ e. absurd (false≢true (sym e)) }
+
+pub told-false : {P : Type 0} → ¬ P → Told false P
+told-false n = record { so = λ e. absurd (false≢true e); not-so = λ _. n }
 
 pub told-equal : {P : Type 0} (a b : ℕ) → (a ≡ b → P) → (P → a ≡ b) → Told (eqb a b) P
 told-equal a b f g = record { so = λ e. f (eqb-true a b e); not-so = λ e p. eqb-false a b e (g p) }

@@ -1,5 +1,4 @@
 pub mod Answers
 pub mod Digits
 pub mod Disjoint
-pub mod Subheap
 pub mod Tabulate

@@ -5,7 +5,7 @@ use mathlib.Core.Path.{sym, _∙_}
 use Prim.Native.Nat.{ℕ, _+_, _-_, _≤_, _<_}
 use native.Mathlib.Omega.{arith}
 use Rattle.block.proofs.ReadyBlocks.{ready-of}
-use Rattle.words.proofs.Subheap.{told-true, told-false}
+use Rattle.words.proofs.Answers.{told-true, told-false}
 use Rattle.certificate.specs.Line.{LineIn}
 use Rattle.certificate.proofs.Lines.{checked}
 use Rattle.certificate.proofs.check.Statement.{statement}

@@ -1,8 +1,7 @@
 -- `instance_holds` tests the conditions in turn: positions, head, pure conditions, and the join.
 use borrow.Author.Needs.{needs}
 use mathlib.Core.Path.{sym, _∙_}
-use Rattle.words.proofs.Subheap.{told-false}
-use Rattle.words.proofs.Answers.{told-as}
+use Rattle.words.proofs.Answers.{told-false, told-as}
 use Rattle.certificate.proofs.Passing.{head-is}
 use Rattle.certificate.proofs.instance_holds.Statement.{statement}
 use Rattle.certificate.proofs.instance_holds.Tie as tie

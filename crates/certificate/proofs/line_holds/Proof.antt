@@ -4,7 +4,7 @@ use mathlib.Core.Path.{_≡_, ap, _∙_}
 use Prim.Native.Nat.{ℕ, _%_}
 use native.Mathlib.Omega.{arith}
 use Rattle.semantics.specs.Certificate.{ruleAt}
-use Rattle.words.proofs.Subheap.{told-false}
+use Rattle.words.proofs.Answers.{told-false}
 use Rattle.block.specs.Layout.{rulePlace}
 use Rattle.block.proofs.Scopes.{formed-of}
 use Rattle.certificate.proofs.line_holds.Statement.{statement}

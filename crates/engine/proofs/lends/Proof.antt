@@ -1,7 +1,7 @@
 -- `lends` meets its contract: the three tests are the three conditions.
 use native.Mathlib.Omega.{arith}
 use borrow.Author.Needs.{needs}
-use Rattle.words.proofs.Subheap.{told-true, told-false}
+use Rattle.words.proofs.Answers.{told-true, told-false}
 use Rattle.engine.proofs.lends.Statement.{statement}
 use Rattle.engine.proofs.lends.Tie as tie
 

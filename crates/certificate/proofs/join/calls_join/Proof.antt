@@ -6,9 +6,8 @@ use Prim.Native.Nat.{_+_, _-_, _%_, _≤_, _<_}
 use native.Mathlib.Omega.{arith}
 use Rattle.semantics.specs.{Certificate.factAt, Fact.partOf}
 use Rattle.block.specs.Layout.{callCount}
-use Rattle.words.proofs.Subheap.{told-false, told-apart, told-shared}
 use Rattle.certificate.specs.Line.{givenBy, CallsOf}
-use Rattle.words.proofs.{Answers.told-equal, Disjoint.sum-small}
+use Rattle.words.proofs.{Answers.told-false, Answers.told-equal, Disjoint.sum-small}
 use Rattle.certificate.proofs.{Passing.CallsFrom, Passing.calls-step, Passing.calls-done}
 use Rattle.certificate.proofs.join.calls_join.Statement.{statement}
 use Rattle.certificate.proofs.join.calls_join.Tie as tie
@@ -65,15 +64,15 @@ returns-2 c =
     let g = start l .args in
     told-false
     (λ p.
-    told-shared (c .before .shares .ensures) (c .if2 .taken)
-    (rw (part-is (c .before)) (calls-step (g .rules .now) (g .rule) (l .loop .c) (omega (arith, counted l .call-count .ensures)) .0 (l .loop .inv .2 .0 p) .apart)))
+    calls-step (g .rules .now) (g .rule) (l .loop .c) (omega (arith, counted l .call-count .ensures)) .0 (l .loop .inv .2 .0 p) .apart
+    (rw (← part-is (c .before)) (c .before .shares .ensures .so (c .if2 .taken))))
 
 -- joined to what is used, it stays small
 small : (c : tie.Else2 Inv-loop μ-loop) → c .before .before .part-of .result + at (c .before) .loop .sum < 65536
 small c =
     let l = at (c .before) in
     sum-small (c .before .before .part-of .result) (l .loop .sum) (omega (arith, c .before .before .part-of .ensures)) (l .loop .inv .1)
-    (told-apart (c .before .shares .ensures) (c .if2 .left))
+    (c .before .shares .ensures .not-so (c .if2 .left))
 
 loop-again : tie.Need-loop-again Inv-loop μ-loop
 loop-again c =
@@ -87,7 +86,7 @@ loop-again c =
       (
         λ p. rw e (calls-step (g .rules .now) (g .rule) (l .loop .c) h .0 (l .loop .inv .2 .0 p) .rest),
         λ p. l .loop .inv .2 .1 (calls-step (g .rules .now) (g .rule) (l .loop .c) h .1
-            (record { line = called .before .calls-line .ensures .so (called .if1 .taken); apart = rw e at (told-apart (c .before .shares .ensures) (c .if2 .left)); rest = rw e at p })),
+            (record { line = called .before .calls-line .ensures .so (called .if1 .taken); apart = rw e at (c .before .shares .ensures .not-so (c .if2 .left)); rest = rw e at p })),
       ),
     )
 

@@ -1,7 +1,7 @@
 -- `calls_line` tests that the line is an earlier one, and compares its fact with the call's, for the line's own subheap.
 use borrow.Author.Needs.{needs}
 use native.Mathlib.Omega.{arith}
-use Rattle.words.proofs.Subheap.{told-false}
+use Rattle.words.proofs.Answers.{told-false}
 use Rattle.certificate.proofs.Passing.{line-told}
 use Rattle.certificate.proofs.join.calls_line.Statement.{statement}
 use Rattle.certificate.proofs.join.calls_line.Tie as tie

@@ -6,9 +6,8 @@ use Prim.Native.Nat.{_+_, _-_, _≤_, _<_}
 use native.Mathlib.Omega.{arith}
 use Rattle.semantics.specs.Tree.{asked}
 use Rattle.block.specs.Layout.{atomIn, atomCount, atomPlace}
-use Rattle.words.proofs.Subheap.{told-false, told-apart, told-shared}
 use Rattle.certificate.specs.Line.{givenBy, FirstRecord, CallsOf, JoinOf}
-use Rattle.words.proofs.{Answers.told-as, Disjoint.sum-small}
+use Rattle.words.proofs.{Answers.told-false, Answers.told-as, Disjoint.sum-small}
 use Rattle.certificate.proofs.Passing.{found-first, found-none, AtomsFrom, atoms-step, atoms-first, atoms-done}
 use Rattle.certificate.proofs.join.joined.Statement.{statement}
 use Rattle.certificate.proofs.join.joined.Tie as tie
@@ -54,14 +53,14 @@ returns-2 c =
     let s = start l .args in
     told-false
     (λ p.
-    told-shared (c .before .shares .ensures) (c .if2 .taken)
-    (rw (c .before .before .bit .ensures) (atoms-first (s .rules .now) (s .rule) (l .loop .g) (omega (arith, l .before .atom-count .ensures)) (taken free) (l .loop .inv .2 .0 p) .apart)))
+    atoms-first (s .rules .now) (s .rule) (l .loop .g) (omega (arith, l .before .atom-count .ensures)) (taken free) (l .loop .inv .2 .0 p) .apart
+    (rw (← c .before .before .bit .ensures) (c .before .shares .ensures .so (c .if2 .taken))))
 
 -- joined to the records used, it stays small
 small : (c : tie.Else2 Inv-loop μ-loop) → c .before .before .bit .result + at (c .before .before .before) .loop .used < 65536
 small c =
     let l = at (c .before .before .before) in
-    sum-small (c .before .before .bit .result) (l .loop .used) (omega (arith, c .before .before .bit .ok)) (l .loop .inv .1) (told-apart (c .before .shares .ensures) (c .if2 .left))
+    sum-small (c .before .before .bit .result) (l .loop .used) (omega (arith, c .before .before .bit .ok)) (l .loop .inv .1) (c .before .shares .ensures .not-so (c .if2 .left))
 
 loop-again : tie.Need-loop-again Inv-loop μ-loop
 loop-again c =
@@ -74,7 +73,7 @@ loop-again c =
       small c,
       (
         λ p. rw e (atoms-first (s .rules .now) (s .rule) (l .loop .g) h (taken free) (l .loop .inv .2 .0 p) .rest),
-        λ p. l .loop .inv .2 .1 (atoms-step (s .rules .now) (s .rule) (l .loop .g) h .1 (_, record { takes = taken free; apart = rw e at (told-apart (c .before .shares .ensures) (c .if2 .left)); rest = rw e at p })),
+        λ p. l .loop .inv .2 .1 (atoms-step (s .rules .now) (s .rule) (l .loop .g) h .1 (_, record { takes = taken free; apart = rw e at (c .before .shares .ensures .not-so (c .if2 .left)); rest = rw e at p })),
       ),
     )
 

@@ -2,9 +2,8 @@
 use borrow.Author.Needs.{needs}
 use mathlib.Core.Logic.{_↔_}
 use native.Mathlib.Omega.{arith}
-use Rattle.words.proofs.Subheap.{told-false}
+use Rattle.words.proofs.Answers.{told-false, told-equal}
 use Rattle.certificate.specs.Line.{Positions}
-use Rattle.words.proofs.Answers.{told-equal}
 use Rattle.certificate.proofs.Positions.{positions-step, positions-done}
 use Rattle.certificate.proofs.line.positions_fit.Statement.{statement}
 use Rattle.certificate.proofs.line.positions_fit.Tie as tie

@@ -6,7 +6,7 @@ use native.Mathlib.Omega.{arith}
 use lib.ListN.{getD}
 use Rattle.semantics.specs.Tree.{valueOf}
 use Rattle.block.specs.Layout.{termIn}
-use Rattle.words.proofs.Subheap.{told-true, told-false}
+use Rattle.words.proofs.Answers.{told-true, told-false}
 use Rattle.certificate.specs.Line.{givenBy}
 use Rattle.block.proofs.TermsInBlock.{fields-are}
 use Rattle.certificate.proofs.rule.fields_match.Statement.{statement}

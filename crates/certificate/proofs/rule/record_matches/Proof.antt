@@ -2,7 +2,7 @@
 use borrow.Author.Needs.{needs}
 use mathlib.Core.Path.{_∙_, sym}
 use native.Mathlib.Omega.{arith}
-use Rattle.words.proofs.Subheap.{told-false}
+use Rattle.words.proofs.Answers.{told-false}
 use Rattle.block.proofs.TermsInBlock.{address-asked, size-asked, record-told}
 use Rattle.certificate.specs.Line.{givenBy}
 use Rattle.certificate.proofs.rule.record_matches.Statement.{statement}

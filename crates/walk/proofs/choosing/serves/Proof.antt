@@ -2,8 +2,7 @@
 use mathlib.Core.{Logic.inl, Logic.inr, Logic.⊎-elim}
 use native.Mathlib.Omega.{arith}
 use borrow.Author.Needs.{needs}
-use Rattle.words.proofs.Subheap.{told-true, told-false}
-use Rattle.words.proofs.Answers.{told-as, told-unequal}
+use Rattle.words.proofs.Answers.{told-true, told-false, told-as, told-unequal}
 use Rattle.walk.proofs.choosing.serves.Statement.{statement}
 use Rattle.walk.proofs.choosing.serves.Tie as tie
 

@@ -5,7 +5,7 @@ use Prim.Native.Nat.{ℕ, _+_, _-_, _≤_, _<_}
 use native.Mathlib.Omega.{arith}
 use lib.ListN.{getD}
 use Rattle.semantics.specs.Tree.{valueOf}
-use Rattle.words.proofs.Subheap.{told-true, told-false}
+use Rattle.words.proofs.Answers.{told-true, told-false}
 use Rattle.block.specs.Layout.{termIn, recordField, recordPlace}
 use Rattle.block.proofs.TermsInBlock.{fields-are}
 use Rattle.walk.proofs.taking.fields_match.Statement.{statement}

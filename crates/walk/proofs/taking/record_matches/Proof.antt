@@ -2,7 +2,7 @@
 use borrow.Author.Needs.{needs}
 use mathlib.Core.Path.{_∙_, sym}
 use native.Mathlib.Omega.{arith}
-use Rattle.words.proofs.Subheap.{told-false}
+use Rattle.words.proofs.Answers.{told-false}
 use Rattle.block.proofs.{Scopes.formed-fields, TermsInBlock.size-asked, TermsInBlock.record-told}
 use Rattle.walk.proofs.taking.record_matches.Statement.{statement}
 use Rattle.walk.proofs.taking.record_matches.Tie as tie

@@ -3,8 +3,9 @@ use borrow.Author.Needs.{needs}
 use mathlib.Core.Path.{_≡_, refl, sym, ap, _∙_}
 use Prim.Native.Nat.{ℕ, _+_, _^_, _<_}
 use native.Mathlib.Omega.{arith}
-use lib.{ListN.length, ListN.getD, Bits.bitAnd}
-use Rattle.words.proofs.{Disjoint.sum-small, Subheap.told-apart, Subheap.told-shared}
+use lib.ListN.{length, getD}
+use Rattle.semantics.specs.Heap.{Disjoint}
+use Rattle.words.proofs.Disjoint.{sum-small}
 use Rattle.block.specs.Layout.{heapIn, atomAddress, recordCount, recordAddress}
 use Rattle.block.proofs.{HeapInBlock.heap-count, HeapInBlock.record-is, HeapInBlock.records-few, Scopes.formed-address, TermsInBlock.term-variable}
 use Rattle.finding.proofs.Addresses.{is-there}
@@ -53,18 +54,14 @@ returns c =
     let at : tie.After-record-at = c .before .before in
     let g = at .before .before .before .args in
     stuck refl
-    (λ k low w z.
-    nowhere (g .rules .now) (g .rule) (g .g) (g .values .now) (g .heap .now) (address (at .before)) (at .record-at .ensures)
-    (omega (arith, c .if1 .taken, c .before .record-count .ensures .0)) k low w)
+    (λ k low w.
+    absurd (nowhere (g .rules .now) (g .rule) (g .g) (g .values .now) (g .heap .now) (address (at .before)) (at .record-at .ensures)
+    (omega (arith, c .if1 .taken, c .before .record-count .ensures .0)) k low w))
 
 returns-2 : tie.Need-returns-2
 returns-2 c =
     let e : tie.Else1 = c .before .before .before in
-    let mask = e .before .before .before .before .before .args .mask in
-    stuck refl
-    (λ k low w z.
-    told-shared (c .before .shares .ensures) (c .if2 .taken)
-    (ap (λ (x : ℕ). bitAnd x mask) (c .before .before .bit .ensures ∙ ap (λ (j : ℕ). 2 ^ j) (sym (the-one e k low w))) ∙ z))
+    stuck refl (λ k low w. rw (the-one e k low w, ← c .before .before .bit .ensures) (c .before .shares .ensures .so (c .if2 .taken)))
 
 record-matches-requires : tie.Need-record-matches-requires
 record-matches-requires c κs =
@@ -73,8 +70,8 @@ record-matches-requires c κs =
     (s .pre .0, s .pre .1, few e, there-is e)
 
 -- the record is free
-free : (c : tie.Else2) → bitAnd (c .before .before .bit .result) (c .before .before .before .before .before .before .before .before .args .mask) ≡ 0
-free c = told-apart (c .before .shares .ensures) (c .if2 .left)
+free : (c : tie.Else2) → Disjoint (c .before .before .bit .result) (c .before .before .before .before .before .before .before .before .args .mask)
+free c = c .before .shares .ensures .not-so (c .if2 .left)
 
 add-t15 : tie.Need-add-t15
 add-t15 c =
@@ -89,15 +86,15 @@ returns-3 c =
     let g = e .before .before .before .before .before .args in
     let i : ℕ = e .before .before .record-at .result in
     taken refl i (omega (arith, below e, heap-count (g .heap .now))) (sym (record-is (g .heap .now) i (below e)) ∙ c .before .record-matches .ensures .so (c .if3 .taken))
-    (ap (λ (x : ℕ). bitAnd x (g .mask)) (sym (b .bit .ensures)) ∙ free (c .before .before)) (ap (λ (x : ℕ). x + g .mask) (b .bit .ensures))
+    (rw (← b .bit .ensures) (free (c .before .before))) (ap (λ (x : ℕ). x + g .mask) (b .bit .ensures))
 
 returns-4 : tie.Need-returns-4
 returns-4 c =
     let e : tie.Else1 = c .before .before .before .before .before in
     let g = e .before .before .before .before .before .args in
     stuck refl
-    (λ k low w z.
-    c .before .record-matches .ensures .not-so (c .if3 .left) (record-is (g .heap .now) (e .before .before .record-at .result) (below e) ∙ rw (the-one e k low w) at w))
+    (λ k low w.
+    absurd (c .before .record-matches .ensures .not-so (c .if3 .left) (record-is (g .heap .now) (e .before .before .record-at .result) (below e) ∙ rw (the-one e k low w) at w)))
 
 pub take-record-spec : {M : Type 1} → statement M
 take-record-spec =
