@@ -21,7 +21,7 @@ use words::shares;
 ghost use mathlib.Core.Path.{_≡_};
 ghost use mathlib.Core.Bool.{Bool};
 ghost use mathlib.Core.List.{map};
-ghost use Prim.Native.Nat.{_+_, _^_, _≤_, _<_};
+ghost use Prim.Native.Nat.{_+_, _≤_, _<_};
 ghost use lib.ListN.{getD};
 ghost use Rattle.semantics.specs.Heap.{WellFormedHeap};
 ghost use Rattle.semantics.specs.Tree.{valuesOf, Meets, asked};

@@ -1,6 +1,5 @@
 -- `record_matches` compares the numbers of fields, then the fields; the address is given.
 use borrow.Author.Needs.{needs}
-use mathlib.Core.Path.{_∙_, sym}
 use native.Mathlib.Omega.{arith}
 use Rattle.words.proofs.Answers.{told-false}
 use Rattle.block.proofs.{Scopes.formed-fields, TermsInBlock.size-asked, TermsInBlock.record-told}
