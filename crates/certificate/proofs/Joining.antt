@@ -3,7 +3,8 @@ use mathlib.Core.{Path._≡_, Path.refl, List.List, List.[], List._∷_, List.Li
 use Prim.Native.Nat.{ℕ, _+_, _<_}
 use native.Mathlib.Omega.{arith}
 use Rattle.semantics.specs.{Heap.Disjoint, Heap.Joins, Lists._among_}
-use Rattle.words.proofs.Disjoint.{disjoint-comm, disjoint-none, disjoint-split, disjoint-join, sum-small}
+use Rattle.semantics.proofs.Sharing.{disjoint-comm, disjoint-none}
+use Rattle.words.proofs.Disjoint.{disjoint-split, disjoint-join, sum-small}
 
 -- The subheaps, joined one by one to those used, make up the whole.
 pub data Onto : List ℕ → ℕ → ℕ → Type 0 where

@@ -17,6 +17,19 @@ shared-left {a} s = sym (bit-at a (s .place)) ∙ s .left
 shared-right : {a b : ℕ} (s : Shares a b) → bit b (s .place) ≡ 1
 shared-right {b = b} s = sym (bit-at b (s .place)) ∙ s .right
 
+pub shares-comm : {a b : ℕ} → Shares a b → Shares b a
+shares-comm s = record { place = s .place; left = s .right; right = s .left }
+
+pub disjoint-comm : {a b : ℕ} → Disjoint a b → Disjoint b a
+disjoint-comm d s = d (shares-comm s)
+
+-- a subheap shares a record with itself, unless it is empty
+pub shares-itself : (a : ℕ) → a ≢ 0 → Shares a a
+shares-itself a z = let (i, e) = some-bit a z in shared a a i e e
+
+pub disjoint-none : (a : ℕ) → Disjoint a 0
+disjoint-none a s = omega (arith, shared-right s, bit-zero (s .place))
+
 -- ---- the conjunction
 
 pub shares-and : (a b : ℕ) → Shares a b → bitAnd a b ≢ 0
