@@ -14,15 +14,15 @@ pub data Onto : List ℕ → ℕ → ℕ → Type 0 where
 record Rest (parts : List ℕ) (used whole : ℕ) : Type 0 where
   pub rest : ℕ
   pub joins : Joins parts rest
-  pub apart : Disjoint used rest
+  pub disjoint : Disjoint used rest
   pub sum : whole ≡ used + rest
 
 onto-rest : {parts : List ℕ} {used whole : ℕ} → Onto parts used whole → Rest parts used whole
-onto-rest {used = used} (Onto.none e) = record { rest = 0; joins = Joins.none; apart = disjoint-none used; sum = omega arith }
+onto-rest {used = used} (Onto.none e) = record { rest = 0; joins = Joins.none; disjoint = disjoint-none used; sum = omega arith }
 onto-rest {used = used} (Onto.next {part = part} h o) =
     let r = onto-rest o in
-    let (a, b) = disjoint-join part used (r .rest) h (r .apart) in
-    record { rest = part + r .rest; joins = Joins.next a (r .joins) refl; apart = b; sum = omega (arith, r .sum) }
+    let (a, b) = disjoint-join part used (r .rest) h (r .disjoint) in
+    record { rest = part + r .rest; joins = Joins.next a (r .joins) refl; disjoint = b; sum = omega (arith, r .sum) }
 
 pub onto-joins : (parts : List ℕ) (whole : ℕ) → Onto parts 0 whole → Joins parts whole
 onto-joins parts whole o = let r = onto-rest o in let e : r .rest ≡ whole = omega (arith, r .sum) in rw e at (r .joins)

@@ -37,18 +37,18 @@ CallsFrom rules rule words k σ part c lines used = CallsJoin words k σ part (d
 -- what the first of them says
 pub record FirstCall (rules : List ℕ) (rule : ℕ) (words : List ℕ) (k : ℕ) (σ : List ℕ) (part c lines used : ℕ) : Type 0 where
   pub line : CallsLine words k σ (callIn rules (callPlace rule c)) (lines % 65536)
-  pub apart : Disjoint (partOf (factAt words (lines % 65536))) used
+  pub disjoint : Disjoint (partOf (factAt words (lines % 65536))) used
   pub rest : CallsFrom rules rule words k σ part (c + 1) (lines / 65536) (partOf (factAt words (lines % 65536)) + used)
 
 module _ (rules : List ℕ) (rule c : ℕ) {words : List ℕ} {k : ℕ} {σ : List ℕ} {part lines used : ℕ} where
   pub calls-step : c < callCount rules rule → CallsFrom rules rule words k σ part c lines used ↔ FirstCall rules rule words k σ part c lines used
-  calls-step h = (λ j. first (rw next at j), λ f. rw next (CallsJoin.next (f .line) (f .apart) (f .rest)))
+  calls-step h = (λ j. first (rw next at j), λ f. rw next (CallsJoin.next (f .line) (f .disjoint) (f .rest)))
     where
       next : drop c (ruleIn rules rule .calls) ≡ callIn rules (callPlace rule c) ∷ drop (c + 1) (ruleIn rules rule .calls)
       next = drop-next (callCount rules rule) (λ i. callIn rules (callPlace rule i)) c h
 
       first : CallsJoin words k σ part (callIn rules (callPlace rule c) ∷ drop (c + 1) (ruleIn rules rule .calls)) lines used → FirstCall rules rule words k σ part c lines used
-      first (CallsJoin.next l a r) = record { line = l; apart = a; rest = r }
+      first (CallsJoin.next l a r) = record { line = l; disjoint = a; rest = r }
 
   pub calls-done : callCount rules rule ≤ c → CallsFrom rules rule words k σ part c lines used ↔ ((lines ≡ 0) × (used ≡ part))
   calls-done h = rw (drop-end (callCount rules rule) (λ i. callIn rules (callPlace rule i)) c h) (last, λ e. CallsJoin.done (e .0) (e .1))
@@ -80,18 +80,18 @@ AtomsFrom rules rule records σ after g used = AtomsJoin records σ after (drop 
 -- what the first of them says, if it takes record i
 pub record FirstAtom (rules : List ℕ) (rule : ℕ) (records σ : List ℕ) (after : ℕ → Type 0) (g i used : ℕ) : Type 0 where
   pub takes : FirstRecord records (asked σ (atomIn rules (atomPlace rule g))) i
-  pub apart : Disjoint (2 ^ i) used
+  pub disjoint : Disjoint (2 ^ i) used
   pub rest : AtomsFrom rules rule records σ after (g + 1) (2 ^ i + used)
 
 module _ (rules : List ℕ) (rule g : ℕ) {records σ : List ℕ} {after : ℕ → Type 0} {used : ℕ} where
   pub atoms-step : g < atomCount rules rule → AtomsFrom rules rule records σ after g used ↔ ((i : ℕ) × FirstAtom rules rule records σ after g i used)
-  atoms-step h = (λ j. first (rw next at j), λ f. rw next (AtomsJoin.next (f .0) (f .1 .takes) (f .1 .apart) (f .1 .rest)))
+  atoms-step h = (λ j. first (rw next at j), λ f. rw next (AtomsJoin.next (f .0) (f .1 .takes) (f .1 .disjoint) (f .1 .rest)))
     where
       next : drop g (ruleIn rules rule .points-to) ≡ atomIn rules (atomPlace rule g) ∷ drop (g + 1) (ruleIn rules rule .points-to)
       next = drop-next (atomCount rules rule) (λ i. atomIn rules (atomPlace rule i)) g h
 
       first : AtomsJoin records σ after (atomIn rules (atomPlace rule g) ∷ drop (g + 1) (ruleIn rules rule .points-to)) used → (i : ℕ) × FirstAtom rules rule records σ after g i used
-      first (AtomsJoin.next i f z r) = (i, record { takes = f; apart = z; rest = r })
+      first (AtomsJoin.next i f z r) = (i, record { takes = f; disjoint = z; rest = r })
 
   -- only one record is the first as asked for
   pub atoms-first : {i : ℕ} → g < atomCount rules rule → FirstRecord records (asked σ (atomIn rules (atomPlace rule g))) i

@@ -47,7 +47,7 @@ setOf (i ∷ is) = 2 ^ i + setOf is
 abbrev pub wholeOf : Heap → ℕ
 wholeOf heap = 2 ^ length heap - 1
 
--- Two subheaps share a record: some bit is one in both.
+-- Two subheaps share a record: at its place both numbers have the binary digit 1.
 pub record Shares (a b : ℕ) : Type 0 where
   pub place : ℕ
   pub left : a / 2 ^ place % 2 ≡ 1

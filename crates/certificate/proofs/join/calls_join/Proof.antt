@@ -64,7 +64,7 @@ returns-2 c =
     let g = start l .args in
     told-false
     (λ p.
-    calls-step (g .rules .now) (g .rule) (l .loop .c) (omega (arith, counted l .call-count .ensures)) .0 (l .loop .inv .2 .0 p) .apart
+    calls-step (g .rules .now) (g .rule) (l .loop .c) (omega (arith, counted l .call-count .ensures)) .0 (l .loop .inv .2 .0 p) .disjoint
     (rw (← part-is (c .before)) (c .before .shares .ensures .so (c .if2 .taken))))
 
 -- joined to what is used, it stays small
@@ -86,7 +86,7 @@ loop-again c =
       (
         λ p. rw e (calls-step (g .rules .now) (g .rule) (l .loop .c) h .0 (l .loop .inv .2 .0 p) .rest),
         λ p. l .loop .inv .2 .1 (calls-step (g .rules .now) (g .rule) (l .loop .c) h .1
-            (record { line = called .before .calls-line .ensures .so (called .if1 .taken); apart = rw e at (c .before .shares .ensures .not-so (c .if2 .left)); rest = rw e at p })),
+            (record { line = called .before .calls-line .ensures .so (called .if1 .taken); disjoint = rw e at (c .before .shares .ensures .not-so (c .if2 .left)); rest = rw e at p })),
       ),
     )
 

@@ -53,7 +53,7 @@ returns-2 c =
     let s = start l .args in
     told-false
     (λ p.
-    atoms-first (s .rules .now) (s .rule) (l .loop .g) (omega (arith, l .before .atom-count .ensures)) (taken free) (l .loop .inv .2 .0 p) .apart
+    atoms-first (s .rules .now) (s .rule) (l .loop .g) (omega (arith, l .before .atom-count .ensures)) (taken free) (l .loop .inv .2 .0 p) .disjoint
     (rw (← c .before .before .bit .ensures) (c .before .shares .ensures .so (c .if2 .taken))))
 
 -- joined to the records used, it stays small
@@ -73,7 +73,7 @@ loop-again c =
       small c,
       (
         λ p. rw e (atoms-first (s .rules .now) (s .rule) (l .loop .g) h (taken free) (l .loop .inv .2 .0 p) .rest),
-        λ p. l .loop .inv .2 .1 (atoms-step (s .rules .now) (s .rule) (l .loop .g) h .1 (_, record { takes = taken free; apart = rw e at (c .before .shares .ensures .not-so (c .if2 .left)); rest = rw e at p })),
+        λ p. l .loop .inv .2 .1 (atoms-step (s .rules .now) (s .rule) (l .loop .g) h .1 (_, record { takes = taken free; disjoint = rw e at (c .before .shares .ensures .not-so (c .if2 .left)); rest = rw e at p })),
       ),
     )
 
