@@ -7,6 +7,7 @@
 static const uint8_t book[] = {
     1,          /* one predicate, segment: */
     2,          /* it has two arguments, so variables 0 and 1 of each rule are a and b */
+    0,          /* no constant */
     2,          /* two rules */
     0, 0,       /* rule 0, for segment, nothing bound: segment(a, b) if */
     1, 0, 0, 1, /* one condition: equal, a, b */

@@ -9,12 +9,12 @@
 #define LINES 64
 
 /* segment(a, b) if a = b; segment(a, b) if a -> c and segment(c, b): `./shapes encode book examples/segment.book` gives the bytes. */
-static const uint8_t book[] = {1, 2, 2, 0, 0, 1, 0, 0, 1, 0, 0, 0, 1, 0, 1, 0, 1, 2, 1, 0, 2, 1};
+static const uint8_t book[] = {1, 2, 0, 2, 0, 0, 1, 0, 0, 1, 0, 0, 0, 1, 0, 1, 0, 1, 2, 1, 0, 2, 1};
 static const uint8_t snapshot[] = {2, VALUE(10), 1, VALUE(20), VALUE(20), 1, VALUE(10)};
 static const uint8_t question[] = {0, 2, VALUE(10), VALUE(10)};
 static const uint8_t to_20[] = {0, 2, VALUE(10), VALUE(20)};
 /* The same with a != b in the second case: examples/plain/segment.book, which is plain. */
-static const uint8_t plain[] = {1, 2, 2, 0, 0, 1, 0, 0, 1, 0, 0, 0, 1, 1, 1, 0, 1, 1, 0, 1, 2, 1, 0, 2, 1};
+static const uint8_t plain[] = {1, 2, 0, 2, 0, 0, 1, 0, 0, 1, 0, 0, 0, 1, 1, 1, 0, 1, 1, 0, 1, 2, 1, 0, 2, 1};
 static const uint8_t chain[] = {2, VALUE(10), 1, VALUE(20), VALUE(20), 1, VALUE(30)};
 static const uint8_t to_30[] = {0, 2, VALUE(10), VALUE(30)};
 static const unsigned kept[] = {0, 1, 2, 3, 10, 20}; /* nil, a spare for each of the three variables, and what question and snapshot have */

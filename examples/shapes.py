@@ -4,11 +4,11 @@ and has it checked; then the same for some part of the records; last, the quick 
 from ctypes import CDLL, byref, c_size_t, c_uint8, c_uint16, c_uint64
 from pathlib import Path
 
-BOOK = bytes.fromhex("01 02 02  00 00 01 00 00 01 00 00  00 01 00 01 00 01 02 01 00 02 01")  # the rules of examples/segment.book
+BOOK = bytes.fromhex("01 02 00 02  00 00 01 00 00 01 00 00  00 01 00 01 00 01 02 01 00 02 01")  # the rules of examples/segment.book
 SNAPSHOT = bytes.fromhex("02  0A000000 01 14000000  14000000 01 0A000000")  # 10: 20 and 20: 10
 QUESTION = bytes.fromhex("00 02 0A000000 0A000000")  # segment(10, 10)
 TO_20 = bytes.fromhex("00 02 0A000000 14000000")  # segment(10, 20)
-PLAIN = bytes.fromhex("01 02 02  00 00 01 00 00 01 00 00  00 01 01 01 00 01 01 00 01 02 01 00 02 01")  # those of examples/plain/segment.book
+PLAIN = bytes.fromhex("01 02 00 02  00 00 01 00 00 01 00 00  00 01 01 01 00 01 01 00 01 02 01 00 02 01")  # those of examples/plain/segment.book
 CHAIN = bytes.fromhex("02  0A000000 01 14000000  14000000 01 1E000000")  # 10: 20 and 20: 30
 TO_30 = bytes.fromhex("00 02 0A000000 1E000000")  # segment(10, 30)
 KEPT = (0, 1, 2, 3, 10, 20)  # nil, three spares since the largest rule has three variables, and what snapshot and question name

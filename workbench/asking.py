@@ -69,7 +69,7 @@ def ask(asked: Asked) -> Answer:
         reason = not_plain(asked.book) if asked.by_walk else ""
         if reason:
             return Answer(asked, reply, not_plain=reason)
-        return Answer(asked, reply, hints=(part_hints if asked.some_part else hints)(asked.pool, asked.question))
+        return Answer(asked, reply, hints=(part_hints if asked.some_part else hints)(asked.pool, asked.question, asked.book.constants))
     if asked.by_walk:
         return Answer(asked, reply)
     lines = tuple(read_lines(reply.words, asked.book, asked.pool, asked.question))

@@ -2,16 +2,20 @@
 
 from dataclasses import dataclass, field
 
-from workbench.lexer import RESERVED, Token, Tokens, shorten, shown
+from workbench.lexer import RESERVED, TERMS, Token, Tokens, shorten, shown
 from workbench.mistake import Mistake
-from workbench.model import MOST_ARGUMENTS, MOST_CALLS, MOST_CELLS, MOST_CONDITIONS, MOST_FIELDS, MOST_VARIABLES
+from workbench.model import MOST_ARGUMENTS, MOST_CALLS, MOST_CELLS, MOST_CONDITIONS, MOST_CONSTANTS, MOST_FIELDS, MOST_VARIABLES
 
+# Begins the list of constants. It is not reserved: a predicate of this name is followed by { or (.
+CONSTANTS = "constants"
+NO_BLOCK = "there is no block here: a book has at least one, such as p { emp => p() }"
 ORDINALS = {4: "fourth", 5: "fifth", 9: "ninth", 17: "seventeenth"}
 
 
 @dataclass
 class Case:
-    """A term is the token of its name or of nil. `names` has the first token of each name, in the order of the text."""
+    """A term is the token of its name, of nil, of a number or of a place in the list of constants. `names` has the first token of each name,
+    and `numbers` the tokens of all numbers and places, in the order of the text."""
 
     start: Token
     listed: list[Token] = field(default_factory=list)
@@ -20,6 +24,7 @@ class Case:
     calls: list[tuple[Token, list[Token]]] = field(default_factory=list)
     head: list[Token] = field(default_factory=list)
     names: dict[str, Token] = field(default_factory=dict)
+    numbers: list[Token] = field(default_factory=list)
 
 
 @dataclass
@@ -31,14 +36,41 @@ class Block:
     cases: list[Case]
 
 
-def parse_blocks(tokens: Tokens) -> list[Block]:
+def parse_blocks(tokens: Tokens) -> tuple[list[Token], list[Block]]:
+    """The constants that are listed ahead of the blocks, and the blocks."""
     _refuse_other_texts(tokens)
+    listed = _constants(tokens) if _lists_constants(tokens) else []
     blocks = []
+    if tokens.peek().kind == "end":
+        raise tokens.mistake(NO_BLOCK, tokens.peek())
     while tokens.peek().kind != "end":
+        if _lists_constants(tokens):
+            raise tokens.mistake("a list of constants stands once and ahead of all blocks: move it there", tokens.peek())
         blocks.append(_block(tokens))
         if not tokens.take(";") and tokens.peek().kind != "end":
             raise _after_block(tokens)
-    return blocks
+    return listed, blocks
+
+
+def _lists_constants(tokens: Tokens) -> bool:
+    return tokens.peek().text == CONSTANTS and tokens.peek(1).kind not in ("{", "(")
+
+
+def _constants(tokens: Tokens) -> list[Token]:
+    tokens.next()
+    listed: list[Token] = []
+    while True:
+        token = tokens.next()
+        if token.kind != "number" and token.text != "nil":
+            raise tokens.mistake(f"a number is missing before {shown(token)}: write {CONSTANTS} 7, 8 ; and then the blocks", token)
+        _limit(tokens, listed, MOST_CONSTANTS, token, "constant", "constants", "a book")
+        listed.append(token)
+        if tokens.take(";"):
+            return listed
+        if not tokens.take(","):
+            after = tokens.peek()
+            missing = "," if after.kind == "number" else ";"
+            raise tokens.mistake(f"{missing} is missing before {shown(after)}: write {CONSTANTS} 7, 8 ; and then the blocks", after)
 
 
 def _after_block(tokens: Tokens) -> Mistake:
@@ -51,7 +83,7 @@ def _after_block(tokens: Tokens) -> Mistake:
 def _refuse_other_texts(tokens: Tokens) -> None:
     first, second = tokens.peek(), tokens.peek(1)
     if first.kind == "end":
-        raise tokens.mistake("there is no block here: a book has at least one, such as p { emp => p() }", first)
+        raise tokens.mistake(NO_BLOCK, first)
     if first.kind == "number" or (first.text == "emp" and second.kind == "end"):
         raise tokens.mistake("this is a pool and no book: a book has blocks such as p { emp => p() }", first)
     if first.kind == "name" and second.kind == "(" and not any(token.kind == "{" for token in tokens.all):
@@ -87,7 +119,7 @@ def _after_head(tokens: Tokens, p: str, name: Token) -> Mistake:
         message = f"}} is missing: write }} before ; to close the block of {p}"
     elif token.kind == "name" and tokens.peek(1).kind == "{":
         message = f"}} and ; are missing: write }} ; before the block of {shown(token)}"
-    elif token.kind in ("name", "number", "("):
+    elif token.kind in (*TERMS, "("):
         message = f"| is missing: write | between two cases, before {shown(token)}"
     elif token.kind in ("*", ","):
         message = f"nothing is joined to a head: write all atoms of the case before => {p}(..)"
@@ -135,7 +167,7 @@ def _after_atoms(tokens: Tokens, p: str) -> Mistake:
         message = "write * and not , between atoms"
     elif token.kind in ("|", "}", ";", "end"):
         message = f"=> is missing before {shown(token)}: write => and the head, such as {p}(a), after the atoms of a case"
-    elif token.kind in ("name", "number", "("):
+    elif token.kind in (*TERMS, "("):
         message = f"* or => is missing before {shown(token)}: write * between atoms, and => before the head"
     else:
         message = f"{shown(token)} cannot follow an atom: write * and another atom, or => and the head"
@@ -144,11 +176,9 @@ def _after_atoms(tokens: Tokens, p: str) -> Mistake:
 
 def _atom(tokens: Tokens, case: Case) -> None:
     token, after = tokens.peek(), tokens.peek(1)
-    if token.kind == "number":
-        raise _number(tokens, token)
     if token.kind == "(":
         raise tokens.mistake("( begins no atom: write atoms without parentheses around them", token)
-    if token.kind != "name":
+    if token.kind not in TERMS:
         raise tokens.mistake(f"an atom is missing before {shown(token)}: write one, or emp where there is none", token)
     if token.text == "exists":
         raise tokens.mistake("exists stands at the beginning of a case only: list all names there", token)
@@ -165,8 +195,8 @@ def _atom(tokens: Tokens, case: Case) -> None:
 
 
 def _lonely(token: Token) -> str:
-    if token.text == "nil":
-        return "nil alone is no atom: write emp for nothing, or a condition such as a = nil"
+    if token.text == "nil" or token.kind != "name":
+        return f"{shown(token)} alone is no atom: write emp for nothing, or a condition such as a = {shown(token)}"
     hint = "; the empty part is emp" if token.text.lower() in ("empty", "true", "emp", "e") else ""
     return f"{shown(token)} alone is no atom: write {shown(token)}() for a predicate without arguments, or =, != or -> after it{hint}"
 
@@ -180,8 +210,11 @@ def _condition(tokens: Tokens, case: Case) -> None:
 
 def _cell(tokens: Tokens, case: Case) -> None:
     address = tokens.peek()
-    if address.text == "nil":
-        raise tokens.mistake("nil is no address: the address of a cell must be a name", address)
+    if address.text == "nil" or (address.kind == "number" and not address.text.strip("0xX")):
+        raise tokens.mistake(f"{shown(address)} is no address: the address of a cell must be a name", address)
+    if address.kind != "name":
+        instead = f"write a name a there, and the condition a = {shown(address)}"
+        raise tokens.mistake(f"{shown(address)} is a number, and the address of a cell must be a name: {instead}", address)
     _limit(tokens, case.cells, MOST_CELLS, address, "cell", "cells")
     _term(tokens, case)
     tokens.next()
@@ -193,8 +226,8 @@ def _open_fields(tokens: Tokens, case: Case) -> list[Token]:
     """Fields without parentheses end where no comma follows."""
     fields, comma = [], None
     while True:
-        if tokens.peek().kind not in ("name", "number"):
-            message = f"a field is missing before {shown(tokens.peek())}: write a name or nil; a cell without fields is a -> ()"
+        if tokens.peek().kind not in TERMS:
+            message = f"a field is missing before {shown(tokens.peek())}: write a name, a number or nil; a cell without fields is a -> ()"
             raise tokens.mistake(message, tokens.peek())
         if tokens.peek(1).kind in ("(", "=", "!=", "->"):
             raise _atom_for_field(tokens, comma)
@@ -214,6 +247,8 @@ def _atom_for_field(tokens: Tokens, comma: Token | None) -> Mistake:
 
 def _call(tokens: Tokens, case: Case) -> None:
     name = tokens.next()
+    if name.kind != "name":
+        raise tokens.mistake(f"{shown(name)} is a number and no name of a predicate: write another name", name)
     _refuse_reserved(tokens, name, "predicate")
     _limit(tokens, case.calls, MOST_CALLS, name, "call", "calls")
     tokens.next()
@@ -237,11 +272,11 @@ def _terms(tokens: Tokens, case: Case, what: str) -> list[Token]:
 
 def _term(tokens: Tokens, case: Case) -> Token:
     token = tokens.next()
-    if token.kind == "number":
-        raise _number(tokens, token)
+    if token.kind not in TERMS:
+        raise tokens.mistake(f"a term is missing before {shown(token)}: write a name, a number or nil", token)
     if token.kind != "name":
-        raise tokens.mistake(f"a term is missing before {shown(token)}: write a name or nil", token)
-    if token.text != "nil":
+        case.numbers.append(token)
+    elif token.text != "nil":
         _refuse_no_variable(tokens, token)
         _note(tokens, case, token)
     return token
@@ -249,8 +284,6 @@ def _term(tokens: Tokens, case: Case) -> Token:
 
 def _head(tokens: Tokens, case: Case, p: str, predicate: str) -> None:
     name = tokens.next()
-    if name.kind == "number":
-        raise _number(tokens, name)
     if name.kind != "name":
         raise tokens.mistake(f"the head is missing before {shown(name)}: write {p}(a, b) with the arguments of {p}", name)
     _refuse_reserved(tokens, name, "predicate")
@@ -281,12 +314,11 @@ def _arguments(tokens: Tokens, case: Case | None) -> list[Token]:
 
 
 def _check_argument(tokens: Tokens, token: Token, before: list[Token]) -> None:
-    if token.kind == "number":
-        raise _number(tokens, token)
-    if token.kind != "name":
+    if token.kind not in TERMS:
         raise tokens.mistake(f"a name is missing before {shown(token)}: the arguments of a head are different names", token)
-    if token.text == "nil":
-        raise tokens.mistake("nil cannot be an argument of a head: write a name a there, and the condition a = nil", token)
+    if token.text == "nil" or token.kind != "name":
+        instead = f"write a name a there, and the condition a = {shown(token)}"
+        raise tokens.mistake(f"{shown(token)} cannot be an argument of a head: {instead}", token)
     _refuse_no_variable(tokens, token)
     if any(token.text == other.text for other in before):
         other = f"write another name b there, and the condition {shown(token)} = b"
@@ -318,8 +350,3 @@ def _refuse_no_variable(tokens: Tokens, token: Token) -> None:
         raise tokens.mistake(f"{token.text} is no variable: write nil, or another name", token)
     if token.text == "_":
         raise tokens.mistake("_ alone is no name: write a name of its own for each value that may be any", token)
-
-
-def _number(tokens: Tokens, token: Token) -> Mistake:
-    instead = "a name" if token.text.strip("0xX") else "nil"
-    return tokens.mistake(f"{shown(token)} is a number, and rules have names and nil only: write {instead}", token)

@@ -1,13 +1,15 @@
-"""Books as text: `parse_book` gives predicates and names their numbers, `write_book` writes any book."""
+"""Books as text: `parse_book` gives predicates, names and constants their numbers, `write_book` writes any book."""
 
 from itertools import groupby
 
-from workbench.book_syntax import ORDINALS, Block, Case, parse_blocks
+from workbench.book_syntax import CONSTANTS, ORDINALS, Block, Case, parse_blocks
 from workbench.lexer import Token, Tokens, shown
 from workbench.mistake import Mistake
 from workbench.model import (
-    EQUAL, MOST_PREDICATES, MOST_RULES, NIL, UNEQUAL, Book, Call, Cell, Condition, Predicate, Rule,
+    EQUAL, FIRST_CONSTANT, MOST_CONSTANTS, MOST_PREDICATES, MOST_RULES, NIL, UNEQUAL, Book, Call, Cell, Condition, Predicate, Rule,
+    fixed_value, is_variable, terms_of,
 )
+from workbench.values import read_value, spellings_of, write_value
 from workbench.wording import count, suggestion
 
 KINDS = {"=": EQUAL, "!=": UNEQUAL}
@@ -18,8 +20,9 @@ ONE_LINE = 100
 
 def parse_book(text: str, source: str) -> Book:
     tokens = Tokens(text, source)
-    blocks = parse_blocks(tokens)
+    listed, blocks = parse_blocks(tokens)
     predicates = _predicates(tokens, blocks)
+    constants = _Constants(tokens, listed, [token for block in blocks for case in block.cases for token in case.numbers])
     numbers = {name: number for number, name in enumerate(predicates)}
     rules: list[Rule] = []
     for block in blocks:
@@ -27,8 +30,43 @@ def parse_book(text: str, source: str) -> Book:
             if len(rules) == MOST_RULES:
                 ordinal = ORDINALS[MOST_RULES + 1]
                 raise tokens.mistake(f"this is the {ordinal} case of the book: a book has at most {MOST_RULES} cases", case.start)
-            rules.append(_rule(tokens, case, numbers[block.name.text], numbers, predicates))
-    return Book(tuple(Predicate(name, len(first)) for name, first in predicates.items()), tuple(rules))
+            rules.append(_rule(tokens, case, numbers[block.name.text], numbers, predicates, constants))
+    found = tuple(Predicate(name, len(first)) for name, first in predicates.items())
+    return Book(found, tuple(rules), tuple(constants.values), spellings_of(constants.read))
+
+
+class _Constants:
+    """The values of the constants: those listed, and then the other numbers of the cases as they first come."""
+
+    def __init__(self, tokens: Tokens, listed: list[Token], tokens_in_cases: list[Token]):
+        self.tokens = tokens
+        self.read = [(read_value(tokens, token), token) for token in listed]
+        self.values = [value for value, _ in self.read]
+        self.listed = len(listed)
+        for token in tokens_in_cases:
+            if token.kind == "number":
+                self._add(read_value(tokens, token), token)
+
+    def _add(self, value: int, token: Token) -> None:
+        """0 is nil and takes no constant."""
+        self.read.append((value, token))
+        if value == 0 or value in self.values:
+            return
+        if len(self.values) == MOST_CONSTANTS:
+            limit = f"a book has at most {MOST_CONSTANTS} different ones" + ", with those listed" * bool(self.listed)
+            raise self.tokens.mistake(f"this book has a {ORDINALS[MOST_CONSTANTS + 1]} number, {shown(token)}: {limit}", token)
+        self.values.append(value)
+
+    def term(self, token: Token) -> int:
+        if token.kind == "number":
+            value = read_value(self.tokens, token)
+            return FIRST_CONSTANT + self.values.index(value) if value else NIL
+        place = token.text.removeprefix("@")
+        if place not in map(str, range(1, self.listed + 1)):
+            known = f"{count(self.listed, 'constant')} {'is' if self.listed == 1 else 'are'} listed ahead of the blocks"
+            instead = f"write @1{f' to @{self.listed}' * (self.listed > 1)}" if self.listed else "write a number"
+            raise self.tokens.mistake(f"{shown(token)} names no constant, since {known}: {instead}", token)
+        return FIRST_CONSTANT + int(place) - 1
 
 
 def _predicates(tokens: Tokens, blocks: list[Block]) -> dict[str, list[Token]]:
@@ -53,7 +91,9 @@ def _other_count(tokens: Tokens, name: Token, head: list[Token], first: list[Tok
     return tokens.mistake(message, head[0] if head else name)
 
 
-def _rule(tokens: Tokens, case: Case, predicate: int, numbers: dict[str, int], predicates: dict[str, list[Token]]) -> Rule:
+def _rule(
+    tokens: Tokens, case: Case, predicate: int, numbers: dict[str, int], predicates: dict[str, list[Token]], constants: _Constants
+) -> Rule:
     arguments = [token.text for token in case.head]
     for token in case.listed:
         if token.text in arguments:
@@ -61,6 +101,8 @@ def _rule(tokens: Tokens, case: Case, predicate: int, numbers: dict[str, int], p
     variables = tuple(arguments + [name for name in case.names if name not in arguments])
 
     def term(token: Token) -> int:
+        if token.kind != "name":
+            return constants.term(token)
         return NIL if token.text == "nil" else variables.index(token.text)
 
     for name, terms in case.calls:
@@ -86,7 +128,7 @@ def _check_call(tokens: Tokens, name: Token, terms: list[Token], predicates: dic
 
 
 def write_book(book: Book) -> str:
-    blocks: list[str] = []
+    blocks = _list_of_constants(book)
     begun = 0  # predicates with a block so far: a later one must not come before them
     for predicate, rules in groupby(book.rules, key=lambda rule: rule.predicate):
         blocks += [_declaration(book.predicates[number]) for number in range(begun, predicate)]
@@ -94,6 +136,14 @@ def write_book(book: Book) -> str:
         blocks.append(_block(book.predicates[predicate].name, [write_case(rule, book) for rule in rules]))
     blocks += [_declaration(predicate) for predicate in book.predicates[begun:]]
     return "\n".join(blocks) + "\n"
+
+
+def _list_of_constants(book: Book) -> list[str]:
+    """Where the numbers in the cases would give other constants: some are equal, 0, used nowhere or used in another order."""
+    in_cases = (fixed_value(term, book.constants) for rule in book.rules for term in terms_of(rule) if not is_variable(term))
+    if book.constants == tuple(dict.fromkeys(filter(None, in_cases))):
+        return []
+    return [f"{CONSTANTS} {', '.join(write_value(value, book.spellings) for value in book.constants)} ;"]
 
 
 def _declaration(predicate: Predicate) -> str:
@@ -118,7 +168,9 @@ def write_atoms(rule: Rule, book: Book) -> list[str]:
     """The rule's conditions, cells and calls."""
 
     def term(number: int) -> str:
-        return "nil" if number == NIL else rule.variables[number]
+        if is_variable(number):
+            return rule.variables[number]
+        return "nil" if number == NIL else _write_constant(number - FIRST_CONSTANT, book)
 
     atoms = [f"{term(each.left)} {'=' if each.kind == EQUAL else '!='} {term(each.right)}" for each in rule.conditions]
     atoms += [f"{term(each.address)} -> {', '.join(map(term, each.fields)) or '()'}" for each in rule.cells]
@@ -126,12 +178,15 @@ def write_atoms(rule: Rule, book: Book) -> list[str]:
     return atoms
 
 
+def _write_constant(place: int, book: Book) -> str:
+    """A number stands for the first constant of its value, and 0 for none."""
+    value = book.constants[place]
+    return write_value(value, book.spellings) if value and book.constants.index(value) == place else f"@{place + 1}"
+
+
 def _exists(rule: Rule, arguments: int) -> str:
     """The list of the bound variables, where their order in the atoms would give them other numbers."""
-    terms = [term for each in rule.conditions for term in (each.left, each.right)]
-    terms += [term for each in rule.cells for term in (each.address, *each.fields)]
-    terms += [term for each in rule.calls for term in each.terms]
-    appearing = [term for term in dict.fromkeys(terms) if term != NIL and term >= arguments]
+    appearing = [term for term in dict.fromkeys(terms_of(rule)) if is_variable(term) and term >= arguments]
     if appearing == list(range(arguments, len(rule.variables))):
         return ""
     return f"exists {', '.join(rule.variables[arguments:])}: "

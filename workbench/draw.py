@@ -159,18 +159,24 @@ class _Picture:
         return f"r{value}:head" if value in self.addresses else f"loose{value}"
 
     def _loose_values(self) -> list[str]:
-        """Values that are not nil and no record's address: one dashed box for each."""
-        values = {value for record in self.pool.records for value in record.fields} | set(self.question.values)
+        """Values that are not nil and no record's address: one dashed box for each. A constant of the book that a field holds has none."""
+        values = {value for record in self.pool.records for value in record.fields if not self._is_constant(value)} | set(self.question.values)
         style = f'shape=box, style=dashed, color="{LOOSE}", fontcolor="{LOOSE}", margin="0.08,0.04", height=0.2'
         return [
             f'  loose{value} [label=<{_label(self.names.value(value))}<BR/><FONT POINT-SIZE="9">no record</FONT>>, {style}]'
             for value in sorted(values - self.addresses - {0})
         ]
 
+    def _is_constant(self, value: int) -> bool:
+        """Whether the value is one of the book's numbers, such as a type code, and leads nowhere."""
+        return value != 0 and value in self.names.book.constants and value not in self.addresses
+
     def _arrows(self, record: Record) -> list[str]:
         rows = []
         for i, value in enumerate(record.fields, 1):
             start = f"r{record.address}:f{i}"
+            if self._is_constant(value):
+                continue
             if value == 0:
                 rows += self._nil(record.address, i, start)
             elif self._goes_back(record.address, value):

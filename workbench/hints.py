@@ -1,8 +1,8 @@
-"""Where a person would look first when a pool does not fit. This looks at the pool and the question's values alone and at no rule, so it
-says nothing about the verdict."""
+"""Where a person would look first when a pool does not fit. This looks at the pool, the question's values and the book's constants and at no
+rule, so it says nothing about the verdict."""
 
 from collections import Counter
-from collections.abc import Iterable
+from collections.abc import Collection, Iterable
 from dataclasses import dataclass, replace
 
 from workbench.model import Pool, Question
@@ -34,7 +34,7 @@ class Unreached:
 
 @dataclass(frozen=True)
 class Dangling:
-    """A field whose value is not nil and no record's address; `asked` is true where the question names that value too."""
+    """A field whose value is not nil, no constant and no record's address; `asked` is true where the question names that value too."""
 
     place: Place
     value: int
@@ -43,7 +43,7 @@ class Dangling:
 
 @dataclass(frozen=True)
 class Outside:
-    """A value of the question, counted from 1, that is not nil and no record's address."""
+    """A value of the question, counted from 1, that is not nil, no constant and no record's address."""
 
     argument: int
     value: int
@@ -60,29 +60,28 @@ class Hints:
         return bool(self.held or self.unreached or self.dangling or self.outside)
 
 
-def hints(pool: Pool, question: Question) -> Hints:
+def hints(pool: Pool, question: Question, constants: Collection[int] = ()) -> Hints:
+    """A constant, such as a type code, is meant to be there and to name no record."""
     places = _places(pool)
-    addresses = {record.address for record in pool.records}
+    meant = {0, *constants, *(record.address for record in pool.records)}
     return Hints(
         held=tuple(_held(pool, places)),
         unreached=tuple(_unreached(pool, question, places)),
         dangling=tuple(
             Dangling(place, value, value in question.values)
             for value, held_at in places.items()
-            if value and value not in addresses
+            if value not in meant
             for place in held_at
         ),
-        outside=tuple(
-            Outside(i, value) for i, value in enumerate(question.values, 1) if value and value not in addresses
-        ),
+        outside=tuple(Outside(i, value) for i, value in enumerate(question.values, 1) if value not in meant),
     )
 
 
-def part_hints(pool: Pool, question: Question) -> Hints:
+def part_hints(pool: Pool, question: Question, constants: Collection[int] = ()) -> Hints:
     """Where no part fits: of the records to which the question's values lead alone. A part may leave the others out, so that neither they
     nor what they hold are a reason; none of those looked at is unreached."""
     reached = reached_from(question.values, pool)
-    return hints(replace(pool, records=tuple(record for record in pool.records if record.address in reached)), question)
+    return hints(replace(pool, records=tuple(record for record in pool.records if record.address in reached)), question, constants)
 
 
 def _places(pool: Pool) -> dict[int, list[Place]]:

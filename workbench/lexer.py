@@ -1,4 +1,4 @@
-"""The tokens of books, pools and questions as text: names, numbers and symbols, each with its line and column."""
+"""The tokens of books, pools and questions as text: names, numbers, places such as @2, and symbols, each with its line and column."""
 
 import re
 from typing import NamedTuple
@@ -48,16 +48,18 @@ def _one_of(spellings: tuple[str, ...]) -> str:
 
 # A slip of two or three characters comes before the symbols in it, and one of a single character after the symbols that begin with it.
 PATTERN = re.compile(
-    r"(?P<space>\s+)|(?P<comment>#.*)|(?P<number>[0-9][\w']*)|(?P<name>[^\W0-9][\w']*)"
+    r"(?P<space>\s+)|(?P<comment>#.*)|(?P<number>[0-9][\w']*)|(?P<place>@[0-9][\w']*)|(?P<name>[^\W0-9][\w']*)"
     rf"|(?P<slip>{_one_of(tuple(slip for slip in SLIPS if len(slip) > 1))})"
     rf"|(?P<symbol>{_one_of(SYMBOLS)})"
     rf"|(?P<slip1>{_one_of(tuple(slip for slip in SLIPS if len(slip) == 1))})"
 )
 NUMBER = re.compile(r"0|[1-9][0-9]*|0[xX][0-9a-fA-F]+")
+# The tokens that a term of a rule can be.
+TERMS = ("name", "number", "place")
 
 
 class Token(NamedTuple):
-    """`kind` is name, number, end, or the symbol itself."""
+    """`kind` is name, number, place, end, or the symbol itself."""
 
     kind: str
     text: str
@@ -107,7 +109,7 @@ class Tokens:
     def unseparated(self, what: str) -> Mistake:
         """In a list in parentheses, the next token is neither of those that can follow."""
         token = self.peek()
-        missing = "," if token.kind in ("name", "number") else ")"
+        missing = "," if token.kind in TERMS else ")"
         return self.mistake(f"{missing} is missing before {shown(token)}: write , between {what} and ) after the last", token)
 
     def _end(self) -> Token:

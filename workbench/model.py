@@ -1,11 +1,12 @@
-"""Books, pools and questions, once read: what text and bytes have in common. A value is a number, and a term the number of one of its
-rule's variables or NIL."""
+"""Books, pools and questions, once read: what text and bytes have in common. A value is a number. A term is the number of one of its
+rule's variables, NIL, or from FIRST_CONSTANT on the place of one of the book's constants."""
 
 from dataclasses import dataclass, field
 
 # The format's limits (docs/FORMAT.md).
 MOST_PREDICATES = 8
 MOST_ARGUMENTS = 4
+MOST_CONSTANTS = 8
 MOST_RULES = 16
 MOST_VARIABLES = 8
 MOST_CONDITIONS = 8
@@ -15,6 +16,7 @@ MOST_CALLS = 3
 MOST_RECORDS = 16
 MOST_VALUE = 2**32 - 1
 
+FIRST_CONSTANT = 128
 NIL = 255
 EQUAL = 0
 UNEQUAL = 1
@@ -61,8 +63,28 @@ class Rule:
 
 @dataclass(frozen=True)
 class Book:
+    """`constants` may be equal, 0 or used nowhere. `spellings` has those that were not written in base ten, as they were written."""
+
     predicates: tuple[Predicate, ...]
     rules: tuple[Rule, ...]
+    constants: tuple[int, ...] = ()
+    spellings: tuple[tuple[int, str], ...] = ()
+
+
+def is_variable(term: int) -> bool:
+    return term < FIRST_CONSTANT
+
+
+def fixed_value(term: int, constants: tuple[int, ...]) -> int:
+    """The value of a term that is no variable."""
+    return 0 if term == NIL else constants[term - FIRST_CONSTANT]
+
+
+def terms_of(rule: Rule) -> list[int]:
+    """All terms of the rule, in the order of its bytes; addresses are terms too."""
+    terms = [term for each in rule.conditions for term in (each.left, each.right)]
+    terms += [term for each in rule.cells for term in (each.address, *each.fields)]
+    return terms + [term for each in rule.calls for term in each.terms]
 
 
 @dataclass(frozen=True)

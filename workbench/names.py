@@ -3,7 +3,7 @@
 from collections.abc import Iterable
 
 from workbench.asking import Asked
-from workbench.unfolding import Line, known_values
+from workbench.unfolding import Line, known_values, named_values
 
 
 class Names:
@@ -13,7 +13,10 @@ class Names:
         assert asked.book and asked.pool and asked.question
         self.book, self.pool, self.question = asked.book, asked.pool, asked.question
         self._spellings = dict(asked.pool.spellings) | dict(asked.question.spellings)
-        self._known = known_values(self.pool, self.question)
+        self._known = known_values(self.book, self.pool, self.question)
+        # How the book writes a number says nothing about an address that happens to be the same one.
+        named = named_values(self.pool, self.question)
+        self._spellings |= {value: text for value, text in self.book.spellings if value not in named}
 
     def value(self, value: int) -> str:
         return "nil" if value == 0 else self._spellings.get(value, str(value))

@@ -2,7 +2,7 @@
 one that was misspelt."""
 
 from workbench.lexer import shorten
-from workbench.model import NIL, Book, Rule
+from workbench.model import Book, Rule, is_variable
 from workbench.wording import nearest
 
 
@@ -21,7 +21,7 @@ def _loose(rule: Rule, arguments: int) -> list[str]:
     in_cells = {term for cell in rule.cells for term in (cell.address, *cell.fields)}
     others = [term for each in rule.conditions for term in (each.left, each.right)]
     others += [term for call in rule.calls for term in call.terms]
-    once = {term for term in others if others.count(term) == 1 and term != NIL}
+    once = {term for term in others if others.count(term) == 1 and is_variable(term)}
     names = [rule.variables[term] for term in sorted(once - in_cells) if term >= arguments]
     return [name for name in names if name not in rule.listed]
 

@@ -3,10 +3,10 @@ plain book a no of the quick walk says that the pool does not fit; for another i
 proved, and the walk does not make it."""
 
 from collections.abc import Iterable, Iterator
-from itertools import chain, combinations
+from itertools import chain, combinations, count
 
 from workbench.lexer import shorten
-from workbench.model import EQUAL, NIL, UNEQUAL, Book, Rule
+from workbench.model import EQUAL, FIRST_CONSTANT, NIL, UNEQUAL, Book, Rule, fixed_value, is_variable
 from workbench.values import write_value
 
 
@@ -36,10 +36,10 @@ def _met_together(book: Book) -> Iterator[str]:
     for (i, first), (j, second) in combinations(enumerate(book.rules), 2):
         predicate = book.predicates[first.predicate]
         if first.predicate == second.predicate:
-            arguments = met_by_both(first, second, predicate.arguments)
+            arguments = met_by_both(first, second, predicate.arguments, book.constants)
             if arguments is not None:
-                example = f"{shorten(predicate.name)}({', '.join(map(write_value, arguments))})"
-                apart = _other_values(names_apart(first, second, predicate.arguments))
+                example = f"{shorten(predicate.name)}({', '.join(write_value(value, book.spellings) for value in arguments)})"
+                apart = _other_values(names_apart(first, second, predicate.arguments, book.constants))
                 yield f"the conditions of {_rules(book, i, j)} can both be met, for example by {example}{apart}"
 
 
@@ -52,9 +52,9 @@ def _other_values(names: list[str]) -> str:
 
 
 def fixed_terms(rule: Rule, arguments: int) -> set[int]:
-    """nil and the head's variables, and step by step what these fix: along an equality either way round, and from a cell's address to its
-    fields. How the rule is written decides: conditions that contradict one another fix nothing by that."""
-    fixed = {NIL, *range(arguments)}
+    """nil, constants and the head's variables, and step by step what these fix: along an equality either way round, and from a cell's address
+    to its fields. How the rule is written decides: conditions that contradict one another fix nothing by that."""
+    fixed = {*range(arguments), *range(FIRST_CONSTANT, NIL + 1)}
     while True:
         ends = [{each.left, each.right} for each in rule.conditions if each.kind == EQUAL]
         more = set[int]().union(*(both for both in ends if both & fixed), *(cell.fields for cell in rule.cells if cell.address in fixed))
@@ -63,16 +63,18 @@ def fixed_terms(rule: Rule, arguments: int) -> set[int]:
         fixed |= more
 
 
-# A term of one of two rules: 0 and the term for nil and the head's variables, which both have, and the rule's own number, 1 or 2, with the
-# term for a bound variable.
+# A term of one of two rules: FIXED and the value for nil and constants, HEAD and the term for the head's variables, which both have, and the
+# rule's own number, 1 or 2, with the term for a bound variable.
 _Term = tuple[int, int]
+FIXED, HEAD = -1, 0
 
 
 class _Classes:
-    """Terms that equalities make the same."""
+    """Terms that equalities make the same. A fixed value stands for its class; `torn` where two different ones are made the same."""
 
     def __init__(self) -> None:
         self._above: dict[_Term, _Term] = {}
+        self.torn = False
 
     def of(self, term: _Term) -> _Term:
         """The one term that stands for its class."""
@@ -83,23 +85,28 @@ class _Classes:
     def join(self, left: _Term, right: _Term) -> None:
         left, right = self.of(left), self.of(right)
         if left != right:
+            if left[0] == FIXED:
+                left, right = right, left
+            self.torn |= left[0] == FIXED
             self._above[left] = right
 
 
-def met_by_both(first: Rule, second: Rule, arguments: int) -> tuple[int, ...] | None:
+def met_by_both(first: Rule, second: Rule, arguments: int, constants: tuple[int, ...] = ()) -> tuple[int, ...] | None:
     """Arguments for which the conditions of either rule can be met, with any whole numbers for its bound variables; None where there are
     none."""
-    classes = _classes(first, second, arguments)
+    classes = _classes(first, second, arguments, constants)
     if classes is None:
         return None
-    numbers = {classes.of((0, NIL)): 0}
-    return tuple(numbers.setdefault(classes.of((0, argument)), len(numbers)) for argument in range(arguments))
+    heads = [classes.of((HEAD, argument)) for argument in range(arguments)]
+    others = (number for number in count(1) if number not in constants)
+    numbers = {(kind, value): value if kind == FIXED else next(others) for kind, value in dict.fromkeys(heads)}
+    return tuple(numbers[each] for each in heads)
 
 
-def names_apart(first: Rule, second: Rule, arguments: int) -> list[str]:
+def names_apart(first: Rule, second: Rule, arguments: int, constants: tuple[int, ...] = ()) -> list[str]:
     """The bound names in the conditions of both rules that may have another value in each, where this alone lets the conditions of both be
     met; else none."""
-    classes = _classes(first, second, arguments)
+    classes = _classes(first, second, arguments, constants)
     if classes is None:
         return []
     found = {}
@@ -108,28 +115,35 @@ def names_apart(first: Rule, second: Rule, arguments: int) -> list[str]:
             both = (1, first.variables.index(name)), (2, second.variables.index(name))
             if all(_stands_in_condition(rule, term) for rule, (_, term) in zip((first, second), both)) and len(set(map(classes.of, both))) == 2:
                 found[name] = both
-    return [] if _classes(first, second, arguments, found.values()) else list(found)
+    return [] if _classes(first, second, arguments, constants, found.values()) else list(found)
 
 
 def _stands_in_condition(rule: Rule, term: int) -> bool:
     return any(term in (each.left, each.right) for each in rule.conditions)
 
 
-def _classes(first: Rule, second: Rule, arguments: int, same: Iterable[tuple[_Term, _Term]] = ()) -> _Classes | None:
+def _classes(
+    first: Rule, second: Rule, arguments: int, constants: tuple[int, ...], same: Iterable[tuple[_Term, _Term]] = ()
+) -> _Classes | None:
     """The classes where the conditions of both rules are met and the terms of `same` are the same; None where that cannot be. Nothing but
-    an inequality between terms of one class is in the way: there are numbers enough for each class to have its own."""
+    two fixed values in one class, or an inequality between terms of one class, is in the way: there are numbers enough for each class to
+    have its own."""
+
+    def placed(own: int, term: int) -> _Term:
+        if not is_variable(term):
+            return FIXED, fixed_value(term, constants)
+        return (HEAD if term < arguments else own), term
 
     def pairs(kind: int) -> Iterator[tuple[_Term, _Term]]:
         for own, rule in ((1, first), (2, second)):
             for each in rule.conditions:
                 if each.kind == kind:
-                    left, right = ((0 if term == NIL or term < arguments else own, term) for term in (each.left, each.right))
-                    yield left, right
+                    yield placed(own, each.left), placed(own, each.right)
 
     classes = _Classes()
     for left, right in chain(pairs(EQUAL), same):
         classes.join(left, right)
-    return None if any(classes.of(left) == classes.of(right) for left, right in pairs(UNEQUAL)) else classes
+    return None if classes.torn or any(classes.of(left) == classes.of(right) for left, right in pairs(UNEQUAL)) else classes
 
 
 def _rules(book: Book, *numbers: int) -> str:

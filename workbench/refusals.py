@@ -2,10 +2,10 @@
 
 SENTENCES = {
     1: "the book ends too early: look for a lost end, or for a count that announces more than there is",
-    2: "a count in the book is out of its range: keep to 1 to 8 predicates of at most 4 arguments, 16 rules, and in a rule to 8 variables "
+    2: "a count in the book is out of its range: keep to 1 to 8 predicates of at most 4 arguments, 8 constants, 16 rules, and in a rule to 8 variables "
     "(arguments included), 8 conditions, 4 cells of 4 fields, 3 calls",
-    3: "the book names something that is not there: use the book's own predicates, equal or unequal, and the rule's own variables or nil; "
-    "a cell's address is a variable and never nil",
+    3: "the book names something that is not there: use the book's own predicates and constants, equal or unequal, and the rule's own "
+    "variables or nil; a cell's address is a variable and never nil or a constant",
     4: "the book goes on after its last rule: look for a count that announces less than there is",
     5: "the snapshot ends too early: look for a lost end, or for a count that announces more than there is",
     6: "the pool is too large: at most 16 records, each with at most 4 fields",

@@ -25,6 +25,7 @@ NO_PART_HINTS = (
     "No hints: every value of the question and every field of the records to which these lead is nil or names a record, and these",
     "fields hold no record in two places, apart from records that point to one another.",
 )
+WITH_NUMBERS = "Numbers that stand in the book, such as type codes, are passed over."
 NO_FIND = "the question holds without any record, which says nothing about the pool; a shape that needs a record tells more"
 LARGER = "larger parts may fit as well; whether all records do is asked without --part"
 WALK_YES = "The walk gives no unfolding to show or to save. To have one, ask the engine:"
@@ -146,12 +147,12 @@ def _hint_rows(answer: Answer) -> list[str]:
     """None where it is not said that the pool does not fit."""
     if answer.kind == NOT_ANSWERED:
         return []
-    some_part = answer.asked.some_part
+    some_part, names = answer.asked.some_part, Names(answer.asked)
+    numbers = [WITH_NUMBERS] * bool(names.book.constants)
     if not answer.hints:
-        return list(NO_PART_HINTS if some_part else NO_HINTS)
-    rows = hint_sentences(answer.hints, Names(answer.asked))
+        return [*(NO_PART_HINTS if some_part else NO_HINTS), *numbers]
     ahead = PART_HINTS_AHEAD if some_part else WALK_HINTS_AHEAD if answer.asked.by_walk else HINTS_AHEAD
-    return [ahead] + [f"  {row}" for row in rows]
+    return [ahead, *numbers, *(f"  {row}" for row in hint_sentences(answer.hints, names))]
 
 
 def hint_sentences(found: Hints, names: Names) -> list[str]:

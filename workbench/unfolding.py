@@ -37,17 +37,22 @@ class Node:
     as_above: bool
 
 
-def known_values(pool: Pool, question: Question) -> set[int]:
+def named_values(pool: Pool, question: Question) -> set[int]:
     """Nil, and what the question and the pool name."""
-    known = {0, *question.values}
+    named = {0, *question.values}
     for record in pool.records:
-        known |= {record.address, *record.fields}
-    return known
+        named |= {record.address, *record.fields}
+    return named
+
+
+def known_values(book: Book, pool: Pool, question: Question) -> set[int]:
+    """These and the book's constants, used or not."""
+    return named_values(pool, question) | set(book.constants)
 
 
 def kept_values(book: Book, pool: Pool, question: Question) -> tuple[int, ...]:
     """The known values and the spares, ascending: a position in an unfolding is one in these."""
-    known = known_values(pool, question)
+    known = known_values(book, pool, question)
     spares = max((len(rule.variables) for rule in book.rules), default=0)
     kept, candidate = set(known), 0
     while len(kept) < len(known) + spares:

@@ -47,6 +47,9 @@ pub fn pools() -> Vec<(String, Input)> {
     for size in [4, 6, 8, 10, 12, 15] {
         add(format!("always-true-{size}"), shapes::anything(dice, size));
     }
+    for size in [4, 8, 16] {
+        add(format!("typed-{size}"), shapes::typed(dice, size));
+    }
     for (name, input) in costly::made() {
         if ["unequal-only", "unmet-at-the-end", "three-calls"].contains(&name) {
             pools.push((name.into(), input));

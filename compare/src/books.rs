@@ -1,5 +1,6 @@
 //! Books written by hand.
 
+use crate::constant_books;
 use crate::input::{Book, Rule, NIL};
 
 /// The list segment (L of the paper).
@@ -340,7 +341,7 @@ pub fn pairs() -> Book {
 
 /// Plain books, beside the doubly linked list.
 pub fn plain() -> Vec<Book> {
-    vec![
+    let mut books = vec![
         plain_segment(),
         plain_list(),
         plain_tree(),
@@ -348,12 +349,14 @@ pub fn plain() -> Vec<Book> {
         lists_of_lists(),
         valued(),
         pairs(),
-    ]
+    ];
+    books.extend(constant_books::plain());
+    books
 }
 
 /// All books that are small enough for every small pool.
 pub fn small() -> Vec<Book> {
-    vec![
+    let mut books = vec![
         segment(),
         house(),
         spare(),
@@ -372,5 +375,7 @@ pub fn small() -> Vec<Book> {
         equalities(),
         other_segments(),
         mixed(),
-    ]
+    ];
+    books.extend(constant_books::small());
+    books
 }

@@ -265,6 +265,7 @@ impl Comparer {
         let (answer, part) = self.lend(input, sizes, &expected)?;
         let (every, returned) = (parts::every_record(input), answer.part.lent()[0]);
         self.tally.parts.saw(reply, &parts, every, returned);
+        self.tally.constants.saw(input, reply, &parts);
         Some(Both { whole, parts, part })
     }
 
@@ -337,7 +338,10 @@ impl Comparer {
         self.tally.walk.saw(before.elapsed(), input, Sizes::OWN);
         let expected = walk::Expected::of(input, reply);
         match walk::judged(input, &expected, &walked) {
-            Ok(yes) => self.tally.walks.saw(&expected, yes),
+            Ok(yes) => {
+                self.tally.walks.saw(&expected, yes);
+                self.tally.constants.walked(input, &expected, yes);
+            }
             Err(wrong) => {
                 let call = call("shapes_walk", input);
                 self.wrong(call.lent(Sizes::OWN, manner.dirt), &wrong);
@@ -368,7 +372,10 @@ impl Comparer {
         let answer = desk::check(book, snapshot, question, exact);
         match expected {
             0 => self.tally.not_taken += 1,
-            1 => self.tally.taken += 1,
+            1 => {
+                self.tally.taken += 1;
+                self.tally.constants.took(input);
+            }
             _ => self.tally.check_refused += 1,
         }
         if answer != expected {
@@ -378,6 +385,16 @@ impl Comparer {
         self.check_parts(&lent, unfolding, expected);
         self.unchanged(input, &lent);
         self.counted();
+    }
+
+    /// An unfolding that is right, by how it was made.
+    pub fn check_taken(&mut self, input: &Input, unfolding: &[u8]) {
+        let before = self.tally.taken;
+        self.check(input, unfolding);
+        if self.tally.taken == before {
+            let what = "the reference and how the unfolding was made";
+            self.wrong(call(what, input).with(unfolding), "it is not taken");
+        }
     }
 
     /// As the desk's entry, but with no limit of its own, and a rest that is no

@@ -27,6 +27,9 @@ pub fn made() -> Vec<(&'static str, Input)> {
         ("found-with-16-records", found_with_16_records()),
         ("plain-tree-of-three", tree_of_three()),
         ("plain-ladder", ladder()),
+        ("most-kept-values", most_kept_values()),
+        ("unmet-by-constants", unmet_by_constants()),
+        ("plain-tree-by-constants", tree_by_constants()),
     ]
 }
 
@@ -294,6 +297,72 @@ fn largest_book() -> Input {
     Input::new(&book, &heap, &Query::new(7, &[1, 2, 3, 4]))
 }
 
+/// The constants that are in none of the pools here.
+const ODD: [u32; MOST_CONSTANTS] = [51, 151, 1_051, 2_051, 4_051, 8_051, 9_051, u32::MAX];
+
+fn constant(place: usize) -> u8 {
+    FIRST_CONSTANT + place as u8
+}
+
+/// As many kept values as there may be, and bound variables that are unequal to
+/// constants and to each other alone.
+fn most_kept_values() -> Input {
+    let mut rule = Rule::new(0, 4);
+    for variable in 0..4 {
+        rule = rule.equal(variable, constant(variable as usize));
+        let bound = 4 + variable;
+        rule = match variable % 2 {
+            0 => rule.unequal(bound, constant(bound as usize)),
+            _ => rule.unequal(bound, bound - 1),
+        };
+    }
+    let all = Rule::new(1, 0).equal(0, 1);
+    let book = Book::new(&[4, 2], vec![rule.clone(), all, rule]).with_constants(&ODD);
+    let question = Query::new(0, &[9_999, 9_998, 9_997, 9_996]);
+    Input::new(&book, &apart(MOST_APART), &question)
+}
+
+/// Records and calls are there, but the first variable and the last are
+/// different constants.
+fn unmet_by_constants() -> Input {
+    let mut rule = Rule::new(0, 7).equal(0, constant(0)).equal(6, constant(7));
+    for variable in [3, 1, 5, 0, 4, 2] {
+        rule = rule.equal(variable, variable + 1);
+    }
+    let open = rule.call(1, &[5, 6]).call(1, &[6, 5]).call(1, &[5, 5]);
+    let mut rules = vec![open; 15];
+    rules.push(Rule::new(1, 0).unequal(0, constant(3)));
+    let book = Book::new(&[0, 2], rules).with_constants(&ODD);
+    Input::new(&book, &apart(15), &Query::new(0, &[]))
+}
+
+/// As the tree of three, but what can never be met are two constants, and the
+/// rules share out a type code.
+fn tree_by_constants() -> Input {
+    let mut rules = Vec::new();
+    for place in 0..6 {
+        let mut never = Rule::new(0, 6).equal(7, constant(place + 1));
+        for variable in (1..7).rev() {
+            never = never.equal(variable + 1, variable);
+        }
+        rules.push(never.equal(1, constant(place)));
+    }
+    rules.push(Rule::new(0, 0).equal(0, NIL));
+    for place in 0..2 {
+        let step = Rule::new(0, 3).unequal(0, NIL).equal(1, constant(place));
+        let other = constant(1 - place);
+        let step = step.cell(0, &[2, 3, 4]).call(0, &[2, other]);
+        rules.push(step.call(0, &[3, other]).call(0, &[4, other]));
+    }
+    let mut heap = Heap::default();
+    for address in 1..=MOST_RECORDS as u32 {
+        let below = [3 * address - 1, 3 * address, 3 * address + 1];
+        heap = heap.with(address, &below.map(up_to_the_last));
+    }
+    let book = Book::new(&[2], rules).with_constants(&ODD);
+    Input::new(&book, &heap, &Query::new(0, &[1, ODD[0]]))
+}
+
 /// Random inputs that took the reference longest.
 fn found([book, snapshot, question]: [&str; 3]) -> Input {
     let bytes = |text| from_hex(text).expect("it is hex");
@@ -308,7 +377,7 @@ fn found([book, snapshot, question]: [&str; 3]) -> Input {
 fn found_with_no_record() -> Input {
     found([
         concat!(
-            "01030f00000201000001000104000201ff0002020000010102040001ff00020001ff0200ff020100",
+            "0103000f00000201000001000104000201ff0002020000010102040001ff00020001ff0200ff020100",
             "05080107060105ff0103010104030106020106040102ff010503000300010702000304050006ff07",
             "0001010001000100020300010003000200010101ff01030003010203030201010103010200010000",
             "00000001000403010102040302000301020100010402ff0003030002020100010000000101ff0004",
@@ -326,7 +395,7 @@ fn found_with_no_record() -> Input {
 fn found_with_16_records() -> Input {
     found([
         concat!(
-            "01020700020101020003000203010302ffff03000200020300020200030000010001030003080104",
+            "0102000700020101020003000203010302ffff03000200020300020200030000010001030003080104",
             "ff0103020102000103ff01040201030101010001040100030000010002030000ff00030201030100",
             "00ff00010001040002010001010200000203ff0203020000010003000005080103010105ff010601",
             "01030001050301010001050201020000020000030001030005080102000102010105010104010106",

@@ -2,14 +2,14 @@
 //! questions, and lengths that are odd or extreme.
 
 use crate::compare::Comparer;
-use crate::input::{Input, NIL};
+use crate::input::{Book, Input, FIRST_CONSTANT, MOST_CONSTANTS, NIL};
 use crate::random::Dice;
 use crate::unfoldings;
 use reference::api::{BENCH_BYTES, DESK_BYTES};
 
 /// Replacements for a byte: the ends of every range, and a little beyond.
-const BYTES: [u8; 17] = [
-    0, 1, 2, 3, 4, 5, 6, 7, 8, 9, 16, 17, 127, 128, 253, 254, NIL,
+const BYTES: [u8; 20] = [
+    0, 1, 2, 3, 4, 5, 6, 7, 8, 9, 16, 17, 127, 128, 129, 135, 136, 253, 254, NIL,
 ];
 
 /// Random bytes are tried up to this length.
@@ -58,10 +58,44 @@ pub fn every_byte(comparer: &mut Comparer, dice: &mut Dice, input: &Input) {
     }
 }
 
+/// The constants as a whole: one more, one less, nine, none, in another order;
+/// and every byte of a term for each byte of the rules.
+pub fn constants(comparer: &mut Comparer, dice: &mut Dice, book: &Book, input: &Input) {
+    let mut lists = vec![Vec::new(), vec![7; MOST_CONSTANTS + 1], vec![0; 255]];
+    let mut longer = book.constants.clone();
+    longer.push(dice.value());
+    lists.push(longer);
+    for at in 0..book.constants.len() {
+        let mut shorter = book.constants.clone();
+        shorter.remove(at);
+        lists.push(shorter);
+        let mut turned = book.constants.clone();
+        turned.rotate_left(at);
+        lists.push(turned);
+    }
+    for list in lists {
+        let mut other = input.clone();
+        other.book = book.clone().with_constants(&list).bytes();
+        comparer.decide(&other);
+        comparer.check(&other, &[]);
+    }
+    let rules = 3 + book.arities.len() + 4 * book.constants.len();
+    for at in rules..input.book.len() {
+        for byte in FIRST_CONSTANT..=NIL {
+            if comparer.takes_turn() {
+                let mut other = input.clone();
+                other.book[at] = byte;
+                comparer.decide(&other);
+            }
+        }
+    }
+}
+
 /// The input with a fault for each of the refusals 1 to 9, where it has such
 /// bytes at all.
 pub fn one_of_each_fault(input: &Input) -> Vec<Input> {
-    let head = 2 + input.book[0] as usize;
+    let constants = 1 + input.book[0] as usize;
+    let head = constants + 1 + 4 * input.book[constants] as usize + 1;
     let alter: [&dyn Fn(&mut Input); 9] = [
         &|input| input.book.truncate(input.book.len() - 1),
         &|input| input.book[0] = 9,

@@ -25,23 +25,86 @@ pub fn book(dice: &mut Dice, size: Size) -> Book {
         _ => dice.weighted(&[8, 40, 35, 12, 5]) as u8,
     };
     let arities: Vec<u8> = (0..predicates).map(|_| arity(dice)).collect();
+    let constants = constants(dice, size);
+    let named = constants.len();
     // The first rules are grounds to start from, one for most predicates.
     let starts = (0..predicates)
         .filter(|_| dice.chance(90))
         .collect::<Vec<_>>();
     let mut rules: Vec<Rule> = Vec::new();
     for head in starts {
-        rules.push(rule(dice, size, &arities, head, true));
+        rules.push(rule(dice, size, &arities, named, head, true));
     }
     for _ in 0..more_rules.min(MOST_RULES - rules.len()) {
         let head = dice.below(predicates);
-        rules.push(rule(dice, size, &arities, head, false));
+        rules.push(rule(dice, size, &arities, named, head, false));
     }
     dice.shuffle(&mut rules);
-    Book { arities, rules }
+    Book {
+        arities,
+        constants,
+        rules,
+    }
 }
 
-fn rule(dice: &mut Dice, size: Size, arities: &[u8], head: usize, start: bool) -> Rule {
+/// None for half of the books.
+fn constants(dice: &mut Dice, size: Size) -> Vec<u32> {
+    let count = match size {
+        _ if dice.chance(50) => 0,
+        Size::Largest => dice.below(MOST_CONSTANTS + 1),
+        _ => dice.weighted(&[0, 40, 30, 15, 5, 4, 2, 2, 2]),
+    };
+    (0..count).map(|_| constant(dice)).collect()
+}
+
+/// Often a small one: that is a spare number otherwise, or an address, and
+/// there it is twice soon.
+pub fn constant(dice: &mut Dice) -> u32 {
+    match dice.below(10) {
+        0 => 0,
+        1 => u32::MAX,
+        2 => dice.value(),
+        3 => dice.below(60) as u32,
+        _ => dice.between(1, 7) as u32,
+    }
+}
+
+/// The pool's values for some of the book's constants, or its first spare
+/// number.
+pub fn meet(dice: &mut Dice, book: &mut Book, heap: &Heap) {
+    let values = heap.values();
+    let spare = (1..).find(|number| !values.contains(number));
+    for constant in &mut book.constants {
+        match dice.below(10) {
+            0..=2 => *constant = dice.pick(&values),
+            3 => *constant = spare.expect("there are fewer values than numbers"),
+            _ => {}
+        }
+    }
+}
+
+/// Any of so many constants, as a term.
+pub fn some_constant(dice: &mut Dice, constants: usize) -> u8 {
+    FIRST_CONSTANT + dice.below(constants) as u8
+}
+
+/// Nil, or a constant where there is one.
+pub fn fixed_term(dice: &mut Dice, constants: usize) -> u8 {
+    match constants {
+        0 => NIL,
+        _ if dice.chance(40) => NIL,
+        _ => some_constant(dice, constants),
+    }
+}
+
+fn rule(
+    dice: &mut Dice,
+    size: Size,
+    arities: &[u8],
+    constants: usize,
+    head: usize,
+    start: bool,
+) -> Rule {
     let arity = arities[head] as usize;
     let room = MOST_VARIABLES - arity;
     let bound = match size {
@@ -49,7 +112,7 @@ fn rule(dice: &mut Dice, size: Size, arities: &[u8], head: usize, start: bool) -
         _ => dice.weighted(&[25, 35, 25, 10, 5]).min(room),
     };
     let mut rule = Rule::new(head as u8, bound as u8);
-    let mut terms = Terms::new(dice, arity + bound);
+    let mut terms = Terms::new(dice, arity + bound, constants);
     let cells = match size {
         _ if arity + bound == 0 => 0,
         _ if start => dice.weighted(&[70, 30]),
@@ -85,20 +148,22 @@ fn rule(dice: &mut Dice, size: Size, arities: &[u8], head: usize, start: bool) -
         rule.pures.push(pure);
     }
     if dice.chance(6) {
-        rule.pures = all_unequal(dice, arity + bound);
+        rule.pures = all_unequal(dice, arity + bound, constants);
     }
     if dice.chance(88) {
-        tie_head(dice, &mut rule, arity);
+        tie_head(dice, &mut rule, arity, constants);
     }
     rule
 }
 
 /// As many unequal conditions as a rule may have, none of them twice: random
 /// ones in such a number would contradict each other.
-fn all_unequal(dice: &mut Dice, variables: usize) -> Vec<[u8; 3]> {
+fn all_unequal(dice: &mut Dice, variables: usize, constants: usize) -> Vec<[u8; 3]> {
     let mut pairs = Vec::new();
     for left in 0..variables as u8 {
         pairs.push([1, left, NIL]);
+        let terms = FIRST_CONSTANT..FIRST_CONSTANT + constants as u8;
+        pairs.extend(terms.map(|right| [1, left, right]));
         pairs.extend((0..left).map(|right| [1, left, right]));
     }
     dice.shuffle(&mut pairs);
@@ -108,7 +173,7 @@ fn all_unequal(dice: &mut Dice, variables: usize) -> Vec<[u8; 3]> {
 
 /// Head variables that nothing ties take every kept value, and then the table
 /// is soon full: ties most of them by an equality.
-fn tie_head(dice: &mut Dice, rule: &mut Rule, arity: usize) {
+fn tie_head(dice: &mut Dice, rule: &mut Rule, arity: usize, constants: usize) {
     for variable in 0..arity as u8 {
         let used_by_cell = |cell: &(u8, Vec<u8>)| cell.0 == variable || cell.1.contains(&variable);
         let tied = rule.cells.iter().any(used_by_cell)
@@ -119,8 +184,8 @@ fn tie_head(dice: &mut Dice, rule: &mut Rule, arity: usize) {
                 .any(|pure| pure[0] == 0 && pure[1..].contains(&variable));
         if !tied && rule.pures.len() < MOST_PURES {
             let other = match variable {
-                0 => NIL,
-                _ if dice.chance(30) => NIL,
+                0 => fixed_term(dice, constants),
+                _ if dice.chance(30) => fixed_term(dice, constants),
                 _ => dice.below(variable as usize) as u8,
             };
             rule.pures.push([0, variable, other]);
@@ -133,15 +198,20 @@ fn tie_head(dice: &mut Dice, rule: &mut Rule, arity: usize) {
 struct Terms {
     variables: usize,
     unused: Vec<u8>,
+    constants: usize,
 }
 
 impl Terms {
-    fn new(dice: &mut Dice, variables: usize) -> Terms {
+    fn new(dice: &mut Dice, variables: usize, constants: usize) -> Terms {
         let mut unused: Vec<u8> = (0..variables as u8).rev().collect();
         if dice.chance(40) {
             dice.shuffle(&mut unused);
         }
-        Terms { variables, unused }
+        Terms {
+            variables,
+            unused,
+            constants,
+        }
     }
 
     fn variable(&mut self, dice: &mut Dice) -> u8 {
@@ -152,37 +222,54 @@ impl Terms {
     }
 
     fn term(&mut self, dice: &mut Dice) -> u8 {
-        if self.variables == 0 || dice.chance(8) {
-            NIL
+        if self.variables == 0 || dice.chance(self.share(8)) {
+            fixed_term(dice, self.constants)
         } else {
             self.variable(dice)
         }
     }
 
+    /// Constants come on top of nil.
+    fn share(&self, of_nil: usize) -> usize {
+        match self.constants {
+            0 => of_nil,
+            _ => of_nil + 15,
+        }
+    }
+
     /// Any term, used or not.
     fn any(&self, dice: &mut Dice) -> u8 {
-        if self.variables == 0 || dice.chance(15) {
-            NIL
+        if self.variables == 0 || dice.chance(self.share(15)) {
+            fixed_term(dice, self.constants)
         } else {
             dice.below(self.variables) as u8
         }
     }
 }
 
-/// A pool of so many records that point at each other, mostly.
-pub fn heap(dice: &mut Dice, size: usize, field_weights: &[usize; 5]) -> Heap {
-    let places = shapes::places(dice, size);
+/// A pool of so many records that point at each other, mostly. Some of the
+/// book's constants stand in it.
+pub fn heap(dice: &mut Dice, book: &Book, size: usize) -> Heap {
+    let field_weights = field_weights(book);
+    let mut places = shapes::places(dice, size);
+    for &constant in &book.constants {
+        if size > 0 && constant != 0 && !places.contains(&constant) && dice.chance(15) {
+            let at = dice.below(size);
+            places[at] = constant;
+        }
+    }
     let apart = dice.chance(5);
     let field = |dice: &mut Dice| match dice.below(10) {
         _ if apart => dice.value(),
         0 => 0,
         1 => dice.below(20) as u32,
         2 if dice.chance(20) => dice.value(),
+        3 | 4 if !book.constants.is_empty() => dice.pick(&book.constants),
         _ => dice.pick(&places),
     };
     let mut heap = Heap::default();
     for &place in &places {
-        let fields = dice.weighted(field_weights);
+        let fields = dice.weighted(&field_weights);
         let fields: Vec<u32> = (0..fields).map(|_| field(dice)).collect();
         heap = heap.with(place, &fields);
     }
@@ -203,12 +290,10 @@ pub fn field_weights(book: &Book) -> [usize; 5] {
 pub fn query(dice: &mut Dice, book: &Book, heap: &Heap) -> Query {
     let predicate = dice.below(book.arities.len());
     let values = heap.values();
-    let value = |dice: &mut Dice| {
-        if dice.chance(90) {
-            dice.pick(&values)
-        } else {
-            dice.below(30) as u32
-        }
+    let value = |dice: &mut Dice| match dice.below(20) {
+        0 | 1 => dice.below(30) as u32,
+        2..=4 if !book.constants.is_empty() => dice.pick(&book.constants),
+        _ => dice.pick(&values),
     };
     let values: Vec<u32> = (0..book.arities[predicate]).map(|_| value(dice)).collect();
     Query::new(predicate as u8, &values)

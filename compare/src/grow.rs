@@ -4,7 +4,7 @@
 //! join nodes, and numbers are given out at the end. Unequal conditions are
 //! left to luck, so now and then the pool does not fit after all.
 
-use crate::input::{Book, Heap, Query, Rule, MOST_RECORDS, NIL};
+use crate::input::{Book, Heap, Query, Rule, FIRST_CONSTANT, MOST_RECORDS, NIL};
 use crate::random::Dice;
 use crate::shapes;
 
@@ -16,9 +16,11 @@ const OUTSIDE: u32 = 5_000;
 
 /// A pool of about so many records and the question it was grown from.
 pub fn grow(dice: &mut Dice, book: &Book, wanted: usize) -> (Heap, Query) {
+    let numbers = numbers(book);
     let mut growth = Growth {
         book,
-        parents: vec![0],
+        parents: (0..numbers.len()).collect(),
+        numbers,
         records: Vec::new(),
         wanted,
         left: MOST_UNFOLDED,
@@ -30,9 +32,22 @@ pub fn grow(dice: &mut Dice, book: &Book, wanted: usize) -> (Heap, Query) {
     growth.settle(dice, predicate, &arguments)
 }
 
+/// Nil and the constants, each number once.
+fn numbers(book: &Book) -> Vec<u32> {
+    let mut numbers = vec![0];
+    for &constant in &book.constants {
+        if !numbers.contains(&constant) {
+            numbers.push(constant);
+        }
+    }
+    numbers
+}
+
 struct Growth<'a> {
     book: &'a Book,
-    /// Each node's parent; a root is its own. Node 0 is nil.
+    /// The numbers of the first nodes, which are known. Node 0 is nil.
+    numbers: Vec<u32>,
+    /// Each node's parent; a root is its own.
     parents: Vec<usize>,
     /// Nodes of address and fields.
     records: Vec<(usize, Vec<usize>)>,
@@ -47,6 +62,13 @@ impl<'a> Growth<'a> {
         self.parents.len() - 1
     }
 
+    /// The node of a constant.
+    fn known(&self, number: u32) -> usize {
+        let mut numbers = self.numbers.iter();
+        let node = numbers.position(|&other| other == number);
+        node.expect("every constant has one")
+    }
+
     fn root(&self, mut node: usize) -> usize {
         while self.parents[node] != node {
             node = self.parents[node];
@@ -56,7 +78,7 @@ impl<'a> Growth<'a> {
 
     fn join(&mut self, one: usize, other: usize) {
         let (one, other) = (self.root(one), self.root(other));
-        // The lower one stays root, so nil does.
+        // The lower one stays root, so nil and constants do.
         self.parents[one.max(other)] = one.min(other);
     }
 
@@ -67,8 +89,15 @@ impl<'a> Growth<'a> {
         self.left -= 1;
         let mut nodes = arguments.to_vec();
         nodes.extend((0..rule.bound).map(|_| self.node()));
+        let known: Vec<usize> = self
+            .book
+            .constants
+            .iter()
+            .map(|&number| self.known(number))
+            .collect();
         let node = |term: u8| match term {
             NIL => 0,
+            FIRST_CONSTANT.. => known[(term - FIRST_CONSTANT) as usize],
             _ => nodes[term as usize],
         };
         for pure in rule.pures.iter().filter(|pure| pure[0] == 0) {
@@ -117,16 +146,17 @@ impl<'a> Growth<'a> {
                 kept.push((address, fields));
             }
         }
-        let places = shapes::places(dice, taken.len());
+        let known = self.numbers.len();
+        let places = self.places(dice, &taken);
         let mut values: Vec<u32> = (0..self.parents.len() as u32)
             .map(|node| OUTSIDE + node)
             .collect();
-        values[0] = 0;
+        values[..known].copy_from_slice(&self.numbers);
         for (&node, &place) in taken.iter().zip(&places) {
             values[node] = place;
         }
         // Some of the others are made equal to something.
-        for node in 1..values.len() {
+        for node in known..values.len() {
             if !taken.contains(&node) && dice.chance(10) {
                 values[node] = dice.pick(&values);
             }
@@ -139,5 +169,27 @@ impl<'a> Growth<'a> {
         }
         let arguments: Vec<u32> = arguments.iter().map(value).collect();
         (heap, Query::new(predicate, &arguments))
+    }
+
+    /// An address for each of these nodes: a constant's own, or one that is not
+    /// among those. Now and then it is a constant all the same.
+    fn places(&self, dice: &mut Dice, nodes: &[usize]) -> Vec<u32> {
+        let own = |node: usize| self.numbers.get(node).copied();
+        let mut taken: Vec<u32> = nodes.iter().filter_map(|&node| own(node)).collect();
+        let mut places = Vec::new();
+        for (&node, drawn) in nodes.iter().zip(shapes::places(dice, nodes.len())) {
+            let mut place = own(node).unwrap_or(drawn);
+            if own(node).is_none() {
+                if dice.chance(10) {
+                    place = dice.pick(&self.numbers);
+                }
+                while place == 0 || taken.contains(&place) {
+                    place = place.wrapping_add(1);
+                }
+                taken.push(place);
+            }
+            places.push(place);
+        }
+        places
     }
 }

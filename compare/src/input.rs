@@ -3,6 +3,10 @@
 /// The term that stands for nil.
 pub const NIL: u8 = 255;
 
+/// The term that stands for the first constant.
+pub const FIRST_CONSTANT: u8 = 128;
+
+pub const MOST_CONSTANTS: usize = 8;
 pub const MOST_PREDICATES: usize = 8;
 pub const MOST_ARGUMENTS: usize = 4;
 pub const MOST_RULES: usize = 16;
@@ -59,6 +63,7 @@ impl Rule {
 #[derive(Clone)]
 pub struct Book {
     pub arities: Vec<u8>,
+    pub constants: Vec<u32>,
     pub rules: Vec<Rule>,
 }
 
@@ -66,13 +71,21 @@ impl Book {
     pub fn new(arities: &[u8], rules: Vec<Rule>) -> Book {
         Book {
             arities: arities.to_vec(),
+            constants: Vec::new(),
             rules,
         }
+    }
+
+    pub fn with_constants(mut self, constants: &[u32]) -> Book {
+        self.constants = constants.to_vec();
+        self
     }
 
     pub fn bytes(&self) -> Vec<u8> {
         let mut bytes = vec![self.arities.len() as u8];
         bytes.extend(&self.arities);
+        bytes.push(self.constants.len() as u8);
+        bytes.extend(self.constants.iter().flat_map(|value| value.to_le_bytes()));
         bytes.push(self.rules.len() as u8);
         for rule in &self.rules {
             bytes.extend([rule.head, rule.bound, rule.pures.len() as u8]);

@@ -2,13 +2,20 @@
 //! of the first, and one for which the first one's unfoldings are wrong in one
 //! condition only.
 
-use crate::input::{Book, Rule, MOST_CALLS, MOST_CELLS, MOST_PURES, NIL};
+use crate::generate;
+use crate::input::{Book, Rule, MOST_CALLS, MOST_CELLS, MOST_PURES};
 use crate::random::Dice;
 use crate::unfoldings::{called, called_line, replace_field, rule_of, Line};
 
-/// The book without one condition, cell or call; nothing if it has none.
+/// The book without one condition, cell or call; nothing if it has none. Or one
+/// of its constants is another number.
 pub fn weaker(dice: &mut Dice, book: &Book) -> Option<Book> {
     let mut book = book.clone();
+    if !book.constants.is_empty() && dice.chance(25) {
+        let chosen = dice.below(book.constants.len());
+        book.constants[chosen] = generate::constant(dice);
+        return Some(book);
+    }
     let size = |rule: &Rule| rule.pures.len() + rule.cells.len() + rule.calls.len();
     let mut rules: Vec<&mut Rule> = book
         .rules
@@ -40,16 +47,22 @@ pub fn weaker(dice: &mut Dice, book: &Book) -> Option<Book> {
 pub fn forge(dice: &mut Dice, book: &Book, whole: &[Line]) -> Option<(Book, Vec<Line>)> {
     let mut book = book.clone();
     let mut lines = whole.to_vec();
+    let constants = book.constants.len();
     let number = rule_of(&dice.pick(whole));
     let rule = book.rules.get_mut(number)?;
     let arity = book.arities[rule.head as usize];
     let variables = arity + rule.bound;
     let term = |dice: &mut Dice| match variables {
-        0 => NIL,
-        _ if dice.chance(20) => NIL,
+        0 => generate::fixed_term(dice, constants),
+        _ if dice.chance(20) => generate::fixed_term(dice, constants),
         _ => dice.below(variables as usize) as u8,
     };
-    match dice.below(7) {
+    match dice.below(8) {
+        // The kept values stay the same.
+        7 if constants > 1 => {
+            let one = dice.below(constants);
+            book.constants.swap(one, dice.below(constants));
+        }
         0 if rule.pures.len() < MOST_PURES => {
             rule.pures
                 .push([dice.below(2) as u8, term(dice), term(dice)]);

@@ -1,6 +1,7 @@
 //! Books that are not quite plain: each misses one of the three sentences, in
 //! most cases without a change to what fits.
 
+use crate::generate;
 use crate::input::*;
 use crate::random::Dice;
 use crate::shapes::Shape;
@@ -15,10 +16,20 @@ const MISSES: [&[Miss]; 3] = [
     &[condition_less, rule_twice, always],
 ];
 
+/// The same for the third sentence, for books with constants.
+const CONSTANT_MISSES: [Miss; 2] = [same_constants, constant_nil];
+
 /// One of each, where there is one.
 pub fn misses(dice: &mut Dice, shape: &Shape) -> Vec<Shape> {
     let mut shapes = Vec::new();
-    for choice in MISSES {
+    let constants = match shape.book.constants.is_empty() {
+        true => &[][..],
+        false => &CONSTANT_MISSES[..],
+    };
+    for &choice in MISSES.iter().chain(&[constants]) {
+        if choice.is_empty() {
+            continue;
+        }
         let mut other = shape.clone();
         let miss = dice.pick(choice);
         shapes.extend(miss(dice, &mut other).map(|()| other));
@@ -72,9 +83,11 @@ fn nowhere(dice: &mut Dice, shape: &mut Shape) -> Option<()> {
 
 fn unequal_alone(dice: &mut Dice, shape: &mut Shape) -> Option<()> {
     let room = |rule: &Rule| rule.pures.len() < MOST_PURES;
+    let constants = shape.book.constants.len();
     let (rule, open) = open_variable(dice, &mut shape.book, room)?;
     let other = match open {
-        0 => NIL,
+        0 => generate::fixed_term(dice, constants),
+        _ if constants > 0 && dice.chance(30) => generate::some_constant(dice, constants),
         _ => dice.below(open as usize) as u8,
     };
     rule.pures.push([1, open, other]);
@@ -130,6 +143,24 @@ fn rule_twice(dice: &mut Dice, shape: &mut Shape) -> Option<()> {
 fn always(dice: &mut Dice, shape: &mut Shape) -> Option<()> {
     let head = dice.below(shape.book.arities.len()) as u8;
     add_rule(dice, shape, Rule::new(head, 0))
+}
+
+/// Two constants become one number.
+fn same_constants(dice: &mut Dice, shape: &mut Shape) -> Option<()> {
+    let constants = &mut shape.book.constants;
+    let (one, other) = (dice.below(constants.len()), dice.below(constants.len()));
+    let differ = constants[one] != constants[other];
+    constants[one] = constants[other];
+    differ.then_some(())
+}
+
+/// A constant becomes 0, so it is nil.
+fn constant_nil(dice: &mut Dice, shape: &mut Shape) -> Option<()> {
+    let constants = &mut shape.book.constants;
+    let chosen = dice.below(constants.len());
+    let differ = constants[chosen] != 0;
+    constants[chosen] = 0;
+    differ.then_some(())
 }
 
 fn add_rule(dice: &mut Dice, shape: &mut Shape, rule: Rule) -> Option<()> {

@@ -3,6 +3,7 @@
 
 use crate::books;
 use crate::compare::Comparer;
+use crate::constant_books;
 use crate::generate;
 use crate::input::{Book, Heap, Input, Query, Record, MOST_RECORDS};
 use crate::nearly;
@@ -30,7 +31,7 @@ fn input(shape: &Shape) -> Input {
 }
 
 fn shape(dice: &mut Dice, size: usize) -> Shape {
-    match dice.below(8) {
+    match dice.below(13) {
         0 => segment(dice, size),
         1 => of_list(dice, size, books::plain_list()),
         // No record is left without its second.
@@ -39,6 +40,11 @@ fn shape(dice: &mut Dice, size: usize) -> Shape {
         4 => tree_with_parents(dice, size),
         5 => lists_of_lists(dice, size),
         6 => shapes::doubly_linked(dice, size),
+        7 => typed(dice, size),
+        8 => shapes::in_turn(dice, size),
+        9 => end_mark(dice, size),
+        10 => counted(dice, size.min(3)),
+        11 => fixed_by_constants(dice),
         _ => valued(dice, size),
     }
 }
@@ -148,6 +154,68 @@ fn lists_of_lists(dice: &mut Dice, size: usize) -> Shape {
         rest = next;
     }
     of(books::lists_of_lists(), &places, records)
+}
+
+pub fn typed(dice: &mut Dice, size: usize) -> Shape {
+    let mut shape = shapes::typed(dice, size);
+    shape.book = constant_books::plain_typed().with_constants(&shape.book.constants);
+    shape
+}
+
+/// The mark is no address.
+fn end_mark(dice: &mut Dice, size: usize) -> Shape {
+    let places = places(dice, size);
+    let mark = [u32::MAX, 0, 777_777].into_iter();
+    let mark = mark
+        .filter(|mark| !places.contains(mark))
+        .collect::<Vec<u32>>();
+    let mark = dice.pick(&mark);
+    Shape {
+        book: constant_books::end_mark().with_constants(&[mark]),
+        query: Query::new(0, &[first(&places, mark)]),
+        heap: Heap {
+            records: chained(&places, mark),
+        },
+    }
+}
+
+/// Up to three records, counted by constants; for three the first code is none
+/// of them.
+fn counted(dice: &mut Dice, size: usize) -> Shape {
+    let places = places(dice, size);
+    let mut constants: Vec<u32> = Vec::new();
+    while constants.len() < 3 {
+        let code = shapes::code(dice, &places);
+        if !constants.contains(&code) {
+            constants.push(code);
+        }
+    }
+    let other = (0..).find(|code| !constants.contains(code));
+    let other = other.expect("three are not all");
+    let code = constants.get(size).copied().unwrap_or(other);
+    let mut records = chained(&places, 0);
+    if size == 3 {
+        records[0].fields.insert(0, code);
+    }
+    Shape {
+        book: constant_books::counted().with_constants(&constants),
+        query: Query::new(0, &[code, first(&places, 0)]),
+        heap: Heap { records },
+    }
+}
+
+/// Two records, one of them at a place that the book knows.
+fn fixed_by_constants(dice: &mut Dice) -> Shape {
+    let places = places(dice, 2);
+    let code = shapes::code(dice, &places);
+    let records = places.iter().map(|&place| record(place, &[code]));
+    Shape {
+        book: constant_books::fixed_by_constants().with_constants(&[code, places[1]]),
+        query: Query::new(0, &[places[0]]),
+        heap: Heap {
+            records: records.collect(),
+        },
+    }
 }
 
 fn valued(dice: &mut Dice, size: usize) -> Shape {

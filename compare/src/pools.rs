@@ -2,6 +2,8 @@
 
 use crate::books;
 use crate::compare::{Comparer, Limit};
+use crate::constant_books;
+use crate::constants;
 use crate::damage;
 use crate::generate::{self, Size};
 use crate::grow;
@@ -61,7 +63,7 @@ const FIXED: [Pool; 6] = [
 ];
 
 /// Those that may be repeated with other numbers.
-const RANDOM: [Pool; 8] = [
+const RANDOM: [Pool; 9] = [
     Pool {
         name: "usual shapes",
         program_share: 20,
@@ -101,6 +103,11 @@ const RANDOM: [Pool; 8] = [
         name: "small plain books",
         program_share: 150,
         run: split::run,
+    },
+    Pool {
+        name: "constants",
+        program_share: 150,
+        run: constants::run,
     },
 ];
 
@@ -153,6 +160,15 @@ fn small_inputs(dice: &mut Dice) -> Vec<Input> {
 fn damaged_bytes(comparer: &mut Comparer, dice: &mut Dice) {
     for input in small_inputs(dice) {
         damage::every_byte(comparer, dice, &input);
+    }
+    for book in constant_books::plain() {
+        let (heap, query) = grow::grow(dice, &book, 2);
+        damage::every_byte(comparer, dice, &Input::new(&book, &heap, &query));
+    }
+    for book in [constant_books::small(), constant_books::plain()].concat() {
+        let (heap, query) = grow::grow(dice, &book, 2);
+        let input = Input::new(&book, &heap, &query);
+        damage::constants(comparer, dice, &book, &input);
     }
 }
 
@@ -233,8 +249,11 @@ fn random_pools(comparer: &mut Comparer, dice: &mut Dice) {
             continue;
         }
         let (size, records) = sizes(dice);
-        let book = any_book(dice, size);
-        let heap = generate::heap(dice, records, &generate::field_weights(&book));
+        let mut book = any_book(dice, size);
+        let heap = generate::heap(dice, &book, records);
+        if dice.chance(50) {
+            generate::meet(dice, &mut book, &heap);
+        }
         let query = generate::query(dice, &book, &heap);
         let input = Input::new(&book, &heap, &query);
         unfoldings::decide_and_check(comparer, dice, &input, 3);

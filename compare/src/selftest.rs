@@ -2,6 +2,7 @@
 //! program, each altered in one thing, must all be called wrong.
 
 use crate::books;
+use crate::constants_test;
 use crate::input::{Heap, Input, Query};
 use crate::judge::{self, Expected, Table};
 use crate::lent::{self, About, Answer, Block, Checked, Manner, Sizes, AROUND};
@@ -409,10 +410,20 @@ pub fn run() -> bool {
         missed.extend(check_missed(&answers, way, part, name, alter));
     }
     missed.extend(walk_test::missed());
+    let (by_constants, of_constants) = constants_test::missed();
+    missed.extend(by_constants);
+    let by_hand = [books::small(), books::plain()].concat();
+    if by_hand
+        .iter()
+        .any(|book| api::plain_book(&book.bytes()).is_err())
+    {
+        missed.push("a book written by hand has a fault");
+    }
     for name in &missed {
         println!("self-test: not told apart: {name}");
     }
     let altered = ALTERED.len() + PART_ALTERED.len() + CHECK_ALTERED.len() + walk_test::COUNT;
+    let altered = altered + of_constants;
     println!(
         "self-test: {altered} altered answers, {} mistakes",
         missed.len()

@@ -1,6 +1,7 @@
 //! Pools of the usual shapes, each with the book and the question it fits.
 
 use crate::books;
+use crate::constant_books;
 use crate::input::{Book, Heap, Query, Record, MOST_FIELDS};
 use crate::random::Dice;
 
@@ -22,6 +23,9 @@ pub fn all(dice: &mut Dice, size: usize) -> Vec<Shape> {
         lists_in_list(dice, size),
         wide(dice, size),
         anything(dice, size),
+        typed(dice, size),
+        in_turn(dice, size),
+        anchored(dice, size),
     ];
     if size >= 1 {
         shapes.push(ring(dice, size));
@@ -249,6 +253,65 @@ pub fn anything(dice: &mut Dice, size: usize) -> Shape {
         book: books::always_true(),
         query: Query::new(0, &[]),
         heap: Heap { records },
+    }
+}
+
+/// A type code: any number, a small one, an address, or even nil.
+pub fn code(dice: &mut Dice, places: &[u32]) -> u32 {
+    match dice.below(6) {
+        0 => 0,
+        1 => u32::MAX,
+        2 => dice.value(),
+        3 if !places.is_empty() => dice.pick(places),
+        _ => dice.between(1, 5) as u32,
+    }
+}
+
+/// Each record of a list has these codes in turn, and then the next record.
+fn with_codes(places: &[u32], codes: &[u32]) -> Vec<Record> {
+    let mut records = chained(places, 0);
+    for (record, &code) in records.iter_mut().zip(codes.iter().cycle()) {
+        record.fields.insert(0, code);
+    }
+    records
+}
+
+/// A list of records with a type code.
+pub fn typed(dice: &mut Dice, size: usize) -> Shape {
+    let places = places(dice, size);
+    let code = code(dice, &places);
+    Shape {
+        book: constant_books::typed().with_constants(&[code]),
+        query: Query::new(0, &[first(&places, 0)]),
+        heap: Heap {
+            records: with_codes(&places, &[code]),
+        },
+    }
+}
+
+/// A list of records with two type codes in turn.
+pub fn in_turn(dice: &mut Dice, size: usize) -> Shape {
+    let places = places(dice, size);
+    let codes = [code(dice, &places), code(dice, &places)];
+    Shape {
+        book: constant_books::in_turn().with_constants(&codes),
+        query: Query::new(0, &[first(&places, 0), codes[0]]),
+        heap: Heap {
+            records: with_codes(&places, &codes),
+        },
+    }
+}
+
+/// A segment between two addresses that the book knows.
+fn anchored(dice: &mut Dice, size: usize) -> Shape {
+    let places = places(dice, size);
+    let end = dice.pick(&[0, 777_777]);
+    Shape {
+        book: constant_books::anchored().with_constants(&[first(&places, end), end]),
+        query: Query::new(1, &[]),
+        heap: Heap {
+            records: chained(&places, end),
+        },
     }
 }
 

@@ -34,17 +34,26 @@ pub fn run(comparer: &mut Comparer, dice: &mut Dice) {
 }
 
 /// All ways to fill the fields with nil, an address or a value that is none.
+/// About half of the constants are among these too.
 fn every_heap(comparer: &mut Comparer, dice: &mut Dice, book: &Book, count: usize, fields: usize) {
     for choice in tuples(count + 2, count * fields) {
         let places = dice.pick(&PLACES);
         let values = values(&places, count);
         let mut heap = Heap::default();
+        let mut book = book.clone();
+        for constant in &mut book.constants {
+            match dice.below(8) {
+                0..=3 => *constant = dice.pick(&values),
+                4 => *constant = 5,
+                _ => {}
+            }
+        }
         for record in 0..count {
             let own = &choice[record * fields..(record + 1) * fields];
             let own: Vec<u32> = own.iter().map(|&index| values[index]).collect();
             heap = heap.with(places[record], &own);
         }
-        every_question(comparer, dice, book, &heap, &values);
+        every_question(comparer, dice, &book, &heap, &values);
     }
 }
 

@@ -36,7 +36,7 @@ pub fn run(comparer: &mut Comparer, dice: &mut Dice) {
 }
 
 fn random_pool(dice: &mut Dice, book: &Book, records: usize) -> (Heap, Query) {
-    let heap = generate::heap(dice, records, &generate::field_weights(book));
+    let heap = generate::heap(dice, book, records);
     let query = generate::query(dice, book, &heap);
     (heap, query)
 }
@@ -45,50 +45,114 @@ fn book(dice: &mut Dice) -> Book {
     let predicates = dice.between(1, 3);
     let arity = |dice: &mut Dice| dice.weighted(&[5, 45, 35, 10, 5]) as u8;
     let arities: Vec<u8> = (0..predicates).map(|_| arity(dice)).collect();
+    let constants = constants(dice);
+    let named = constants.len();
     let mut rules = Vec::new();
     for head in 0..predicates {
-        for pures in shares(dice, arities[head] as usize) {
-            rules.push(rule(dice, &arities, head, pures));
+        for share in shares(dice, arities[head] as usize, named) {
+            rules.push(rule(dice, &arities, named, head, share));
         }
     }
     dice.shuffle(&mut rules);
-    Book { arities, rules }
+    Book {
+        arities,
+        constants,
+        rules,
+    }
 }
 
+/// None for a third of the books; mostly different ones, since equal ones meet
+/// the same arguments.
+fn constants(dice: &mut Dice) -> Vec<u32> {
+    let count = dice.weighted(&[33, 16, 20, 14, 6, 3, 3, 2, 3]);
+    let mut constants: Vec<u32> = Vec::new();
+    while constants.len() < count {
+        let constant = generate::constant(dice);
+        if !constants.contains(&constant) || dice.chance(5) {
+            constants.push(constant);
+        }
+    }
+    constants
+}
+
+/// The conditions by which a rule has its share of the arguments, and whether
+/// the rule is one that ends.
+type Share = (Vec<[u8; 3]>, bool);
+
 /// Conditions of which exactly one is met, whatever the arguments: a condition
-/// and its opposite, and perhaps another one beside the opposite.
-fn shares(dice: &mut Dice, arity: usize) -> Vec<Vec<[u8; 3]>> {
+/// and its opposite, and perhaps another one beside the opposite. Or at most one
+/// is met, by the constants.
+fn shares(dice: &mut Dice, arity: usize, constants: usize) -> Vec<Share> {
     if arity == 0 {
-        return vec![Vec::new()];
+        return vec![(Vec::new(), true)];
+    }
+    if constants > 0 && dice.chance(50) {
+        return by_constants(dice, arity, constants);
     }
     let opposite = |[kind, left, right]: [u8; 3]| [1 - kind, left, right];
-    let (first, second) = (condition(dice, arity), condition(dice, arity));
+    let first = condition(dice, arity, constants);
+    let second = condition(dice, arity, constants);
     let (not_first, not_second) = (opposite(first), opposite(second));
     match dice.chance(40) {
         true => vec![
-            vec![first],
-            vec![not_first, second],
-            vec![not_first, not_second],
+            (vec![first], true),
+            (vec![not_first, second], false),
+            (vec![not_first, not_second], false),
         ],
-        false => vec![vec![first], vec![not_first]],
+        false => vec![(vec![first], true), (vec![not_first], false)],
     }
 }
 
-/// That an argument is nil or another argument, either way round.
-fn condition(dice: &mut Dice, arity: usize) -> [u8; 3] {
+/// One argument is a constant, or another constant, and so on, or mostly none of
+/// these. Nil may be one of them.
+fn by_constants(dice: &mut Dice, arity: usize, constants: usize) -> Vec<Share> {
+    let argument = dice.below(arity) as u8;
+    let mut terms: Vec<u8> = (0..constants as u8).map(|at| FIRST_CONSTANT + at).collect();
+    if dice.chance(30) {
+        terms.push(NIL);
+    }
+    dice.shuffle(&mut terms);
+    terms.truncate(dice.between(1, 3));
+    let conditions: Vec<[u8; 3]> = terms
+        .iter()
+        .map(|&term| turned(dice, argument, term))
+        .collect();
+    let mut shares: Vec<Share> = Vec::new();
+    for &condition in &conditions {
+        shares.push((vec![condition], shares.is_empty()));
+    }
+    if dice.chance(80) {
+        let none = conditions.iter().map(|&[_, left, right]| [1, left, right]);
+        shares.push((none.collect(), false));
+    }
+    shares
+}
+
+/// That an argument is nil, a constant or another argument.
+fn condition(dice: &mut Dice, arity: usize, constants: usize) -> [u8; 3] {
     let left = dice.below(arity) as u8;
     let right = match dice.below(arity) as u8 {
         right if right != left => right,
-        _ => NIL,
+        _ => generate::fixed_term(dice, constants),
     };
+    turned(dice, left, right)
+}
+
+/// That both are equal, either way round.
+fn turned(dice: &mut Dice, left: u8, right: u8) -> [u8; 3] {
     match dice.chance(50) {
         true => [0, left, right],
         false => [0, right, left],
     }
 }
 
-fn rule(dice: &mut Dice, arities: &[u8], head: usize, pures: Vec<[u8; 3]>) -> Rule {
-    let ends = pures.first().is_none_or(|pure| pure[0] == 0);
+fn rule(
+    dice: &mut Dice,
+    arities: &[u8],
+    constants: usize,
+    head: usize,
+    (pures, ends): Share,
+) -> Rule {
     let mut variables = arities[head];
     let mut rule = Rule::new(head as u8, 0);
     rule.pures = pures;
@@ -104,21 +168,25 @@ fn rule(dice: &mut Dice, arities: &[u8], head: usize, pures: Vec<[u8; 3]>) -> Ru
         }
         let address = dice.pick(&addresses);
         let fields = dice.weighted(&[4, 45, 36, 10, 5]);
-        let fields = (0..fields).map(|_| next(dice, &mut variables)).collect();
+        let fields = (0..fields)
+            .map(|_| next(dice, &mut variables, constants))
+            .collect();
         rule.cells.push((address, fields));
     }
     if dice.chance(20) && variables < MOST_VARIABLES as u8 {
-        rule.pures.push([0, variables, term(dice, variables)]);
+        rule.pures
+            .push([0, variables, term(dice, variables, constants)]);
         variables += 1;
     }
     if dice.chance(20) {
         let kind = dice.chance(80) as u8;
-        let pure = [kind, term(dice, variables), term(dice, variables)];
+        let term = |dice: &mut Dice| term(dice, variables, constants);
+        let pure = [kind, term(dice), term(dice)];
         rule.pures.push(pure);
     }
     rule.bound = variables - arities[head];
     if !rule.cells.is_empty() {
-        rule.calls = calls(dice, arities, arities[head], variables);
+        rule.calls = calls(dice, arities, constants, arities[head], variables);
     }
     // What fixes a variable may stand anywhere.
     dice.shuffle(&mut rule.cells);
@@ -127,28 +195,36 @@ fn rule(dice: &mut Dice, arities: &[u8], head: usize, pures: Vec<[u8; 3]>) -> Ru
 }
 
 /// A new variable, mostly.
-fn next(dice: &mut Dice, variables: &mut u8) -> u8 {
+fn next(dice: &mut Dice, variables: &mut u8, constants: usize) -> u8 {
     if *variables == MOST_VARIABLES as u8 || dice.chance(25) {
-        return term(dice, *variables);
+        return term(dice, *variables, constants);
     }
     *variables += 1;
     *variables - 1
 }
 
-fn term(dice: &mut Dice, variables: u8) -> u8 {
+fn term(dice: &mut Dice, variables: u8, constants: usize) -> u8 {
     match variables {
-        0 => NIL,
-        _ if dice.chance(15) => NIL,
+        0 => generate::fixed_term(dice, constants),
+        _ if dice.chance(if constants == 0 { 15 } else { 35 }) => {
+            generate::fixed_term(dice, constants)
+        }
         _ => dice.below(variables as usize) as u8,
     }
 }
 
 /// Bound variables are called with first, each once.
-fn calls(dice: &mut Dice, arities: &[u8], arity: u8, variables: u8) -> Vec<(u8, Vec<u8>)> {
+fn calls(
+    dice: &mut Dice,
+    arities: &[u8],
+    constants: usize,
+    arity: u8,
+    variables: u8,
+) -> Vec<(u8, Vec<u8>)> {
     let mut bound: Vec<u8> = (arity..variables).collect();
     let mut argument = |dice: &mut Dice| match bound.pop() {
         Some(variable) if dice.chance(85) => variable,
-        _ => term(dice, variables),
+        _ => term(dice, variables, constants),
     };
     let mut calls = Vec::new();
     for _ in 0..dice.weighted(&[15, 45, 28, 12]) {

@@ -3,8 +3,11 @@
 use crate::differences::call;
 use crate::input::{Input, MOST_RECORDS};
 use crate::lent::Sizes;
+use crate::marks::{Fault, Marks};
 use crate::walk::Expected;
-use reference::api::Reply;
+use reference::api::{self, Reply};
+use reference::domain::Domain;
+use reference::formats;
 use std::time::Duration;
 
 #[derive(Default)]
@@ -20,6 +23,7 @@ pub struct Tally {
     pub lent: Lent,
     pub parts: Parts,
     pub walks: Walks,
+    pub constants: Constants,
     pub proved: Slowest,
     pub walk: Slowest,
     pub reference: Slowest,
@@ -263,6 +267,129 @@ const REFUSALS: [&str; 9] = [
     "the walk's refusal 9",
 ];
 
+/// Inputs whose books have constants.
+#[derive(Default)]
+pub struct Constants {
+    /// A rule names one.
+    fits: u64,
+    does_not: u64,
+    /// A rule names two that are the same number, or one that is 0.
+    twice: u64,
+    /// No rule names any.
+    unnamed: u64,
+    cut: u64,
+    ninth: u64,
+    beyond: u64,
+    address: u64,
+    /// With more kept values than a book without constants has.
+    many_kept: u64,
+    most_kept: u64,
+    many_kept_part: u64,
+    many_kept_taken: u64,
+    plain_yes: u64,
+    plain_no: u64,
+    /// Plain, and not if all of them were one number.
+    plain_apart: u64,
+    /// Not plain, and it would be if they were all different and not nil.
+    not_apart: u64,
+}
+
+/// Kept values without constants, at most, and with them.
+const KEPT: usize = 93;
+const KEPT_WITH_CONSTANTS: usize = 101;
+
+/// How many values are kept, unless there is a fault.
+fn kept(input: &Input) -> usize {
+    let problem = formats::read(&input.book, &input.snapshot, &input.question);
+    problem.map_or(0, |problem| Domain::of(&problem).len())
+}
+
+impl Constants {
+    /// A call that gave what it should, and the parts that fit.
+    pub fn saw(&mut self, input: &Input, reply: Reply, parts: &[u16]) {
+        let marks = Marks::of(&input.book);
+        match (reply.refusal, marks.fault) {
+            (1, Some(Fault::Cut)) => self.cut += 1,
+            (2, Some(Fault::Count)) => self.ninth += 1,
+            (3, Some(Fault::Term)) => self.beyond += 1,
+            (3, Some(Fault::Address)) => self.address += 1,
+            _ => {}
+        }
+        if reply.refusal != 0 || marks.constants.is_empty() {
+            return;
+        }
+        match (marks.named.is_empty(), reply.verdict) {
+            (true, _) => self.unnamed += 1,
+            (false, 1) => self.fits += 1,
+            _ => self.does_not += 1,
+        }
+        self.twice += marks.named_twice() as u64;
+        let kept = kept(input);
+        self.many_kept += (kept > KEPT) as u64;
+        self.most_kept += (kept == KEPT_WITH_CONSTANTS) as u64;
+        self.many_kept_part += (kept > KEPT && !parts.is_empty()) as u64;
+    }
+
+    /// An unfolding that the check takes for the whole pool.
+    pub fn took(&mut self, input: &Input) {
+        let listed = !Marks::of(&input.book).constants.is_empty();
+        self.many_kept_taken += (listed && kept(input) > KEPT) as u64;
+    }
+
+    pub fn walked(&mut self, input: &Input, expected: &Expected, yes: bool) {
+        let marks = Marks::of(&input.book);
+        if expected.refusal() > 0 || marks.named.is_empty() {
+            return;
+        }
+        let constants = marks.constants.len();
+        if expected.plain {
+            self.plain_yes += yes as u64;
+            self.plain_no += !yes as u64;
+            let same = with_constants(&input.book, &vec![1; constants]);
+            self.plain_apart += (api::plain_book(&same) == Ok(false)) as u64;
+        } else if marks.named_twice() {
+            let others: Vec<u32> = (1..=constants as u32).collect();
+            let apart = with_constants(&input.book, &others);
+            self.not_apart += (api::plain_book(&apart) == Ok(true)) as u64;
+        }
+    }
+
+    fn kinds(&self) -> [(&'static str, u64); 16] {
+        [
+            ("a rule names one and it fits", self.fits),
+            ("and it does not", self.does_not),
+            ("two names in use are one number", self.twice),
+            ("constants that no rule names", self.unnamed),
+            ("refusal 1 among the constants", self.cut),
+            ("refusal 2 by a ninth constant", self.ninth),
+            ("refusal 3 by a term beyond the list", self.beyond),
+            ("refusal 3 by a constant as an address", self.address),
+            ("over 93 kept values", self.many_kept),
+            ("101 kept values", self.most_kept),
+            ("over 93 and some part fits", self.many_kept_part),
+            ("over 93 and an unfolding taken", self.many_kept_taken),
+            ("plain with constants and yes", self.plain_yes),
+            ("plain with constants and no", self.plain_no),
+            ("plain since constants differ", self.plain_apart),
+            ("not plain since constants do not", self.not_apart),
+        ]
+    }
+
+    fn print(&self) {
+        println!("constants: {}", list(&self.kinds()));
+    }
+}
+
+/// The book, which has no fault, with as many other constants.
+fn with_constants(book: &[u8], constants: &[u32]) -> Vec<u8> {
+    let mut book = book.to_vec();
+    let first = 2 + book[0] as usize;
+    for (&constant, at) in constants.iter().zip((first..).step_by(4)) {
+        book[at..at + 4].copy_from_slice(&constant.to_le_bytes());
+    }
+    book
+}
+
 /// The longest answer, and to what.
 #[derive(Default)]
 pub struct Slowest {
@@ -296,7 +423,8 @@ impl Tally {
             .into_iter()
             .chain(self.parts.checked_kinds())
             .chain(self.walks.kinds())
-            .chain(self.walks.refusals());
+            .chain(self.walks.refusals())
+            .chain(self.constants.kinds());
         let few = kinds.filter(|&(_, count)| count < enough);
         few.map(|(kind, _)| kind).collect()
     }
@@ -318,6 +446,7 @@ impl Tally {
         self.lent.print();
         self.parts.print();
         self.walks.print();
+        self.constants.print();
         self.proved.print("proved");
         self.walk.print("walk");
         self.reference.print("reference");

@@ -230,7 +230,7 @@ fn every_field(comparer: &mut Comparer, input: &Input, whole: &[Line]) {
         };
         for index in 0..8 {
             // Every position, so the first beyond the kept values as well.
-            (0..=96).for_each(|value| try_field(1, position(index), value));
+            (0..=104).for_each(|value| try_field(1, position(index), value));
             for value in [127, 128, 254, 255] {
                 try_field(1, position(index), value);
             }

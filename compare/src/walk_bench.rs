@@ -26,6 +26,9 @@ pub fn pools() -> Vec<(String, Input)> {
     for size in [2, 4, 8, 16] {
         add("doubly-linked", size, shapes::doubly_linked(dice, size));
     }
+    for size in [4, 8, 16] {
+        add("typed", size, plain::typed(dice, size));
+    }
     pools
 }
 

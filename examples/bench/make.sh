@@ -5,10 +5,10 @@ set -euo pipefail
 cd "$1"
 
 # Row 6 of paper 01: the book L, the records 10:(20) 20:(10), the question (10, 10); then its sections, each after its length.
-L='\x01\x02\x02\x00\x00\x01\x00\x00\x01\x00\x00\x00\x01\x00\x01\x00\x01\x02\x01\x00\x02\x01'
+L='\x01\x02\x00\x02\x00\x00\x01\x00\x00\x01\x00\x00\x00\x01\x00\x01\x00\x01\x02\x01\x00\x02\x01'
 pair='\x02\x0A\x00\x00\x00\x01\x14\x00\x00\x00\x14\x00\x00\x00\x01\x0A\x00\x00\x00'
 around='\x00\x02\x0A\x00\x00\x00\x0A\x00\x00\x00'
-book="\x16\x00$L"
+book="\x17\x00$L"
 snapshot="\x13\x00$pair"
 question="\x0A\x00$around"
 
@@ -26,18 +26,18 @@ printf "$book$snapshot\xFF\xFF$around" >question-beyond.in
 printf "\xFF\xFF$L$snapshot$question" >book-beyond.in
 
 # A missing length byte counts as 0, and nothing follows it. Of the question's length only the lower byte is there: no question, refusal
-# 9. Of the book's length only the lower byte, 22, is there: the house book, and no snapshot, refusal 5.
+# 9. Of the book's length only the lower byte, 23, is there: the house book, and no snapshot, refusal 5.
 printf "$book$snapshot\x0A" >question-length-cut.in
-printf "\x16" >book-length-cut.in
+printf "\x17" >book-length-cut.in
 
 # What follows the question is not looked at: row 6.
 printf "$book$snapshot$question\xFF\xFF\xFF" >bytes-after.in
 
 # More than 4,096 bytes. The first 4,096 are row 6 and zeros; after them stands row 8, which has other figures: row 6.
-# No reply can depend on a byte after these: a book that is read has at most 1,098 bytes, a snapshot 337 and a question 18, and the first
-# byte too many is refused by 4, 8 or 9, so with the lengths at most 1,460 bytes matter.
+# No reply can depend on a byte after these: a book that is read has at most 1,131 bytes, a snapshot 337 and a question 18, and the first
+# byte too many is refused by 4, 8 or 9, so with the lengths at most 1,493 bytes matter.
 {
   printf "$book$snapshot$question"
-  head -c 4039 /dev/zero
+  head -c 4038 /dev/zero
   cat house.in
 } >long.in

@@ -124,7 +124,7 @@ fn line(problem: &Problem, domain: &Domain, words: &[u64], number: usize) -> Res
     }
 
     let value = |term: Term| match term {
-        Term::Nil => 0,
+        Term::Number(number) => number as u64,
         Term::Variable(variable) => domain.values()[variables[variable]],
     };
     for pure in &rule.pure {

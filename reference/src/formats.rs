@@ -22,9 +22,11 @@ impl Refusal {
     }
 }
 
+/// Nil is the number 0, and a constant is the number it stands for: only values
+/// matter, so from here on a constant 0 and nil are the same.
 #[derive(Clone, Copy, Debug, PartialEq, Eq)]
 pub enum Term {
-    Nil,
+    Number(u32),
     Variable(usize),
 }
 
@@ -43,7 +45,7 @@ pub struct Pure {
 
 #[derive(Clone, Debug, PartialEq, Eq)]
 pub struct Cell {
-    /// A variable; nil is not allowed here.
+    /// A variable; neither nil nor a constant is allowed here.
     pub address: usize,
     pub fields: Vec<Term>,
 }
@@ -68,6 +70,8 @@ pub struct Rule {
 pub struct RuleSet {
     /// Number of arguments of each predicate.
     pub arities: Vec<usize>,
+    /// As they are listed, whether or not a rule names them.
+    pub constants: Vec<u32>,
     pub rules: Vec<Rule>,
 }
 
@@ -98,6 +102,7 @@ pub struct Problem {
 
 const MAX_PREDICATES: usize = 8;
 const MAX_ARGUMENTS: usize = 4;
+const MAX_CONSTANTS: usize = 8;
 const MAX_RULES: usize = 16;
 const MAX_VARIABLES: usize = 8;
 const MAX_PURE: usize = 8;
@@ -105,6 +110,7 @@ const MAX_CELLS: usize = 4;
 const MAX_CALLS: usize = 3;
 const MAX_RECORDS: usize = 16;
 const MAX_FIELDS: usize = 4;
+const FIRST_CONSTANT: usize = 128;
 const NIL_BYTE: usize = 255;
 
 /// Bytes with a place in them. `ends` is the refusal for a missing byte,
@@ -157,18 +163,26 @@ pub fn read_rule_set(bytes: &[u8]) -> Result<RuleSet, Refusal> {
     for _ in 0..predicates {
         arities.push(reader.count(0, MAX_ARGUMENTS, Refusal::BookCount)?);
     }
+    let mut constants = Vec::new();
+    for _ in 0..reader.count(0, MAX_CONSTANTS, Refusal::BookCount)? {
+        constants.push(reader.value()?);
+    }
     let count = reader.count(0, MAX_RULES, Refusal::BookCount)?;
     let mut rules = Vec::new();
     for _ in 0..count {
-        rules.push(read_rule(&mut reader, &arities)?);
+        rules.push(read_rule(&mut reader, &arities, &constants)?);
     }
     if !reader.at_end() {
         return Err(Refusal::BookTail);
     }
-    Ok(RuleSet { arities, rules })
+    Ok(RuleSet {
+        arities,
+        constants,
+        rules,
+    })
 }
 
-fn read_rule(reader: &mut Reader, arities: &[usize]) -> Result<Rule, Refusal> {
+fn read_rule(reader: &mut Reader, arities: &[usize], constants: &[u32]) -> Result<Rule, Refusal> {
     let head = read_predicate(reader, arities)?;
     let bound = reader.byte()?;
     let variables = arities[head] + bound;
@@ -182,19 +196,19 @@ fn read_rule(reader: &mut Reader, arities: &[usize]) -> Result<Rule, Refusal> {
             1 => Kind::Unequal,
             _ => return Err(Refusal::BookName),
         };
-        let left = read_term(reader, variables)?;
-        let right = read_term(reader, variables)?;
+        let left = read_term(reader, variables, constants)?;
+        let right = read_term(reader, variables, constants)?;
         pure.push(Pure { kind, left, right });
     }
     let mut cells = Vec::new();
     for _ in 0..reader.count(0, MAX_CELLS, Refusal::BookCount)? {
-        let address = match read_term(reader, variables)? {
+        let address = match read_term(reader, variables, constants)? {
             Term::Variable(variable) => variable,
-            Term::Nil => return Err(Refusal::BookName),
+            Term::Number(_) => return Err(Refusal::BookName),
         };
         let mut fields = Vec::new();
         for _ in 0..reader.count(0, MAX_FIELDS, Refusal::BookCount)? {
-            fields.push(read_term(reader, variables)?);
+            fields.push(read_term(reader, variables, constants)?);
         }
         cells.push(Cell { address, fields });
     }
@@ -203,7 +217,7 @@ fn read_rule(reader: &mut Reader, arities: &[usize]) -> Result<Rule, Refusal> {
         let predicate = read_predicate(reader, arities)?;
         let mut arguments = Vec::new();
         for _ in 0..arities[predicate] {
-            arguments.push(read_term(reader, variables)?);
+            arguments.push(read_term(reader, variables, constants)?);
         }
         calls.push(Call {
             predicate,
@@ -227,10 +241,15 @@ fn read_predicate(reader: &mut Reader, arities: &[usize]) -> Result<usize, Refus
     Ok(predicate)
 }
 
-fn read_term(reader: &mut Reader, variables: usize) -> Result<Term, Refusal> {
+fn read_term(reader: &mut Reader, variables: usize, constants: &[u32]) -> Result<Term, Refusal> {
     let byte = reader.byte()?;
     if byte == NIL_BYTE {
-        Ok(Term::Nil)
+        Ok(Term::Number(0))
+    } else if byte >= FIRST_CONSTANT {
+        let constant = constants.get(byte - FIRST_CONSTANT);
+        constant
+            .map(|&value| Term::Number(value))
+            .ok_or(Refusal::BookName)
     } else if byte < variables {
         Ok(Term::Variable(byte))
     } else {

@@ -76,7 +76,7 @@ fn node_holds(
         return false;
     }
     let value = |term: Term| match term {
-        Term::Nil => 0,
+        Term::Number(number) => number as u64,
         Term::Variable(variable) => tree.values[variable],
     };
     for pure in &rule.pure {
@@ -337,7 +337,7 @@ impl Search<'_> {
         // The last goal is taken up first, so the first call goes in last.
         for call in node.rule.calls.iter().rev() {
             let value = |&term: &Term| match term {
-                Term::Nil => 0,
+                Term::Number(number) => number as u64,
                 Term::Variable(variable) => values[variable],
             };
             goals.push(Goal {
@@ -363,17 +363,17 @@ struct Node<'a> {
     others: &'a [Goal],
 }
 
-fn settle(values: &mut [Option<u64>], term: Term, number: u64) -> bool {
+fn settle(values: &mut [Option<u64>], term: Term, value: u64) -> bool {
     match term {
-        Term::Nil => number == 0,
-        Term::Variable(variable) => *values[variable].get_or_insert(number) == number,
+        Term::Number(number) => number as u64 == value,
+        Term::Variable(variable) => *values[variable].get_or_insert(value) == value,
     }
 }
 
 /// Whether some pure condition is false already, whatever the rest will be.
 fn contradicted(rule: &Rule, values: &[Option<u64>]) -> bool {
     let value = |term: Term| match term {
-        Term::Nil => Some(0),
+        Term::Number(number) => Some(number as u64),
         Term::Variable(variable) => values[variable],
     };
     rule.pure

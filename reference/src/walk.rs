@@ -209,7 +209,7 @@ impl Walk<'_> {
 impl Node<'_> {
     fn value(&self, term: Term) -> Option<u64> {
         match term {
-            Term::Nil => Some(0),
+            Term::Number(number) => Some(number as u64),
             Term::Variable(variable) => self.values[variable],
         }
     }
@@ -217,7 +217,7 @@ impl Node<'_> {
     /// Gives the term this value; false if it has another.
     fn settle(&mut self, term: Term, value: u64) -> bool {
         match term {
-            Term::Nil => value == 0,
+            Term::Number(number) => number as u64 == value,
             Term::Variable(variable) => *self.values[variable].get_or_insert(value) == value,
         }
     }

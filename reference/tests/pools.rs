@@ -126,8 +126,8 @@ fn row_11_one_byte_less_or_more() {
 #[test]
 fn row_12_eight_variables() {
     let (snapshot, question) = (snapshot(&[]), question(0, &[5, 5]));
-    let six = [1, 2, 1, 0, 6, 0, 0, 0];
-    let seven = [1, 2, 1, 0, 7, 0, 0, 0];
+    let six = [1, 2, 0, 1, 0, 6, 0, 0, 0];
+    let seven = [1, 2, 0, 1, 0, 7, 0, 0, 0];
     assert_eq!(reply(&six, &snapshot, &question).refusal, 0);
     assert_eq!(reply(&seven, &snapshot, &question), refused(2));
 }
@@ -155,7 +155,7 @@ fn most_kept_values() {
     for (index, four) in fields.iter().enumerate() {
         records.push((100 + index as u32, &four[..]));
     }
-    let book = [1, 4, 1, 0, 4, 0, 0, 0];
+    let book = [1, 4, 0, 1, 0, 4, 0, 0, 0];
     let problem = problem(&book, &snapshot(&records), &question(0, &[1, 3, 5, 7]));
     let domain = Domain::of(&problem);
     assert_eq!(domain.len(), 93);
@@ -167,7 +167,7 @@ fn most_kept_values() {
 
 #[test]
 fn no_rule_means_no_spare_and_no_fact() {
-    let book = [1, 1, 0];
+    let book = [1, 1, 0, 0];
     let (snapshot, question) = (snapshot(&[]), question(0, &[4]));
     let problem = problem(&book, &snapshot, &question);
     assert_eq!(Domain::of(&problem).values(), [0, 4]);
@@ -177,7 +177,7 @@ fn no_rule_means_no_spare_and_no_fact() {
 #[test]
 fn four_arguments_and_the_last_predicate() {
     // Eight predicates of four arguments; the last holds for any values.
-    let book = [8, 4, 4, 4, 4, 4, 4, 4, 4, 1, 7, 0, 0, 0, 0];
+    let book = [8, 4, 4, 4, 4, 4, 4, 4, 4, 0, 1, 7, 0, 0, 0, 0];
     let question = question(7, &[0, 0, 0, 0]);
     let outcome = api::decide(&book, &snapshot(&[]), &question, 625, 1875);
     assert_eq!(outcome.reply, fits(625, 1, 1));
@@ -206,8 +206,8 @@ fn lent_memory_on_every_way_out() {
     let untouched: [Case; 12] = [
         (&[], &pool, &yes, 8, 24, 1),
         (&[0], &pool, &yes, 8, 24, 2),
-        (&[1, 0, 1, 1], &pool, &yes, 8, 24, 3),
-        (&[1, 0, 0, 0], &pool, &yes, 8, 24, 4),
+        (&[1, 0, 0, 1, 1], &pool, &yes, 8, 24, 3),
+        (&[1, 0, 0, 0, 0], &pool, &yes, 8, 24, 4),
         (&book, &[], &yes, 8, 24, 5),
         (&book, &[17], &yes, 8, 24, 6),
         (&book, &[1, 0, 0, 0, 0], &yes, 8, 24, 7),
@@ -277,7 +277,7 @@ fn wrong_turn_shared_record() {
 
 #[test]
 fn wrong_turn_call_without_end() {
-    let book = [1, 0, 1, 0, 0, 0, 0, 1, 0];
+    let book = [1, 0, 0, 1, 0, 0, 0, 0, 1, 0];
     let (snapshot, question) = (snapshot(&[]), question(0, &[]));
     assert_eq!(reply(&book, &snapshot, &question), no(0, 0));
     let problem = problem(&book, &snapshot, &question);
@@ -306,15 +306,15 @@ fn wrong_turn_empty_line_called_twice() {
 #[test]
 fn a_late_contradiction_is_quick() {
     // Eight variables, the first of them unbounded, and 7 unequal 7.
-    let book = [1, 0, 1, 0, 8, 1, 1, 7, 7, 0, 0];
+    let book = [1, 0, 0, 1, 0, 8, 1, 1, 7, 7, 0, 0];
     assert_eq!(reply(&book, &snapshot(&[]), &question(0, &[])), no(0, 0));
     // 0 = 6, 1 = 6, 0 unequal 1.
-    let book = [1, 0, 1, 0, 8, 3, 0, 0, 6, 0, 1, 6, 1, 0, 1, 0, 0];
+    let book = [1, 0, 0, 1, 0, 8, 3, 0, 0, 6, 0, 1, 6, 1, 0, 1, 0, 0];
     assert_eq!(reply(&book, &snapshot(&[]), &question(0, &[])), no(0, 0));
     // Eight pairwise-linked unequal variables are met with the spares.
     let book = [
-        1, 0, 1, 0, 8, 8, 1, 0, 1, 1, 1, 2, 1, 2, 3, 1, 3, 4, 1, 4, 5, 1, 5, 6, 1, 6, 7, 1, 7, 0,
-        0, 0,
+        1, 0, 0, 1, 0, 8, 8, 1, 0, 1, 1, 1, 2, 1, 2, 3, 1, 3, 4, 1, 4, 5, 1, 5, 6, 1, 6, 7, 1, 7,
+        0, 0, 0,
     ];
     assert_eq!(
         reply(&book, &snapshot(&[]), &question(0, &[])),

@@ -148,7 +148,7 @@ fn pure_conditions() {
 #[test]
 fn nil_in_a_pure_condition_is_0() {
     // P(a) if a = nil.
-    let book = [1, 1, 1, 0, 0, 1, 0, 0, 255, 0, 0];
+    let book = [1, 1, 0, 1, 0, 0, 1, 0, 0, 255, 0, 0];
     let problem = problem(&book, &snapshot(&[]), &question(0, &[0]));
     assert_eq!(first_broken(&problem, &[0, 0, 0]), Ok(()));
     let one = [1 << 16, 1, 0];
@@ -187,7 +187,7 @@ fn cells() {
         assert_eq!(first_broken(&problem, &words), Err(Broken::Cell));
     }
     // Fields in another order: P(a) if a:(nil, a).
-    let book = [1, 1, 1, 0, 0, 0, 1, 0, 2, 255, 0, 0];
+    let book = [1, 1, 0, 1, 0, 0, 0, 1, 0, 2, 255, 0, 0];
     let line = [2 << 16 | 1, 2, 0];
     for (fields, expected) in [([0, 9], Ok(())), ([9, 0], Err(Broken::Cell))] {
         let problem = problem(&book, &snapshot(&[(9, &fields)]), &question(0, &[9]));
@@ -246,7 +246,7 @@ fn disjoint_join() {
     assert_eq!(first_broken(&ring, &words.concat()), Err(Broken::Disjoint));
 
     // Two cells share a record: P(a) if a:() and a:().
-    let book = [1, 1, 1, 0, 0, 0, 2, 0, 0, 0, 0, 0];
+    let book = [1, 1, 0, 1, 0, 0, 0, 2, 0, 0, 0, 0, 0];
     let twice = problem(&book, &snapshot(&[(9, &[])]), &question(0, &[9]));
     assert_eq!(
         first_broken(&twice, &[2 << 16 | 1, 2, 0]),

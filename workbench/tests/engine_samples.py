@@ -9,11 +9,11 @@ SEGMENT_RULES = (
     Rule(0, ("a", "b", "c"), cells=(Cell(0, (2,)),), calls=(Call(0, (2, 1)),), line=4),
 )
 L = Book((Predicate("segment", 2),), SEGMENT_RULES)
-L_BYTES = bytes.fromhex("01 02 02 00 00 01 00 00 01 00 00 00 01 00 01 00 01 02 01 00 02 01")
+L_BYTES = bytes.fromhex("01 02 00 02 00 00 01 00 00 01 00 00 00 01 00 01 00 01 02 01 00 02 01")
 
 # The same where the second rule has a != b too: a plain book, which L is not.
 PLAIN = Book((Predicate("segment", 2),), (SEGMENT_RULES[0], replace(SEGMENT_RULES[1], conditions=(Condition(UNEQUAL, 0, 1),))))
-PLAIN_BYTES = bytes.fromhex("01 02 02 00 00 01 00 00 01 00 00 00 01 01 01 00 01 01 00 01 02 01 00 02 01")
+PLAIN_BYTES = bytes.fromhex("01 02 00 02 00 00 01 00 00 01 00 00 00 01 01 01 00 01 01 00 01 02 01 00 02 01")
 
 # P(a) if b is not a and Q(a, b); Q(a, b) of no record. The bound variable b takes a spare.
 S = Book(
@@ -23,7 +23,7 @@ S = Book(
         Rule(1, ("a", "b")),
     ),
 )
-S_BYTES = bytes.fromhex("02 01 02 02 00 01 01 01 01 00 00 01 01 00 01 01 00 00 00 00")
+S_BYTES = bytes.fromhex("02 01 02 00 02 00 01 01 01 01 00 00 01 01 00 01 01 00 00 00 00")
 
 H = Book(
     (Predicate("segment", 2), Predicate("ring", 1), Predicate("queue", 2)),

@@ -2,20 +2,22 @@
 
 from random import Random
 
-from workbench.model import EQUAL, NIL, Book, Pool, Rule
+from workbench.model import EQUAL, FIRST_CONSTANT, NIL, Book, Pool, Rule, is_variable
 
 SPACES = (" ", " ", "  ", "\t", "\n", "\r\n", " # a => b | } ;\n")
 ODD = "abcp01x9'_ \n\t#{}(),;|*=!->=>:.≠→&@\"[]-é\u200b²\x00"
 
 
 def messy_book(book: Book, random: Random, listed: bool) -> str:
-    """A text for the book. Where the bound variables are not listed, their numbers may be others."""
-    blocks = []
+    """A text for the book. Where bound variables and constants are not listed, their numbers may be others. Constants of one value, or 0,
+    can only be told apart by a list."""
+    listing = book.constants and (listed or len({0, *book.constants}) <= len(book.constants))
+    blocks = [["constants", *_separated([messy_value(value, random) for value in book.constants], ",")]] if listing else []
     for predicate in book.predicates:
         names = [f"n{place}" for place in range(predicate.arguments)]
         blocks.append([predicate.name, "(", *_separated(names, ","), ")", "{", "}"])
     for place, rule in enumerate(book.rules):
-        case = _case(book, rule, random, listed)
+        case = _case(book, rule, random, listed, bool(listing))
         if place and book.rules[place - 1].predicate == rule.predicate and random.random() < 0.5:
             blocks[-1][-1:] = ["|", *case, "}"]
         else:
@@ -31,10 +33,10 @@ def _separated(parts: list, between: list | str) -> list[str]:
     return found
 
 
-def _case(book: Book, rule: Rule, random: Random, listed: bool) -> list[str]:
+def _case(book: Book, rule: Rule, random: Random, listed: bool, places: bool) -> list[str]:
     predicate = book.predicates[rule.predicate]
     bound = list(rule.variables[predicate.arguments :])
-    kinds = _atoms(book, rule, random)
+    kinds = _atoms(book, rule, random, places)
     order = [kind for kind, atoms in enumerate(kinds) for _ in atoms]
     random.shuffle(order)
     atoms = [kinds[kind].pop(0) for kind in order]
@@ -45,9 +47,20 @@ def _case(book: Book, rule: Rule, random: Random, listed: bool) -> list[str]:
     return [*begin, *_separated(atoms, ["*"]), "=>", *head]
 
 
-def _atoms(book: Book, rule: Rule, random: Random) -> list[list[list[str]]]:
+def _atoms(book: Book, rule: Rule, random: Random, places: bool) -> list[list[list[str]]]:
+    def written(term: int) -> str:
+        if is_variable(term):
+            return rule.variables[term]
+        if term == NIL:
+            return messy_value(0, random)
+        place = term - FIRST_CONSTANT
+        value = book.constants[place]
+        if places and (value == 0 or value in book.constants[:place] or random.random() < 0.2):
+            return f"@{place + 1}"
+        return messy_value(value, random)
+
     def terms(numbers: tuple[int, ...]) -> list[str]:
-        return _separated(["nil" if number == NIL else rule.variables[number] for number in numbers], ",")
+        return _separated(list(map(written, numbers)), ",")
 
     def fields(numbers: tuple[int, ...]) -> list[str]:
         return terms(numbers) if numbers and random.random() < 0.5 else ["(", *terms(numbers), ")"]

@@ -6,13 +6,13 @@ from random import Random
 
 from workbench.bench_bytes import decode_bench
 from workbench.model import (
-    MOST_ARGUMENTS, MOST_CALLS, MOST_CELLS, MOST_CONDITIONS, MOST_FIELDS, MOST_PREDICATES, MOST_RECORDS, MOST_RULES, MOST_VALUE,
-    MOST_VARIABLES, NIL, Book, Call, Cell, Condition, Pool, Predicate, Question, Record, Rule,
+    FIRST_CONSTANT, MOST_ARGUMENTS, MOST_CALLS, MOST_CELLS, MOST_CONDITIONS, MOST_CONSTANTS, MOST_FIELDS, MOST_PREDICATES, MOST_RECORDS,
+    MOST_RULES, MOST_VALUE, MOST_VARIABLES, NIL, Book, Call, Cell, Condition, Pool, Predicate, Question, Record, Rule,
 )
 
 ROOT = Path(__file__).resolve().parent.parent.parent
 HOUSE = bytes.fromhex(
-    "03 02 01 02 04 00 00 01 00 00 01 00 00 00 01 00 01 00 01 02 01 00 02 01"
+    "03 02 01 02 00 04 00 00 01 00 00 01 00 00 00 01 00 01 00 01 02 01 00 02 01"
     "01 01 00 01 00 01 01 01 00 01 00 02 00 00 00 02 00 00 FF 00 01 FF"
 )
 LETTERS = ("a", "b", "n", "x", "Z", "_", "λ", "é", "数")
@@ -70,16 +70,18 @@ def _names(random: Random, many: int, plain: str) -> list[str]:
 def random_book(random: Random) -> Book:
     names = _names(random, _many(random, MOST_PREDICATES, 1), "p")
     predicates = tuple(Predicate(name, _many(random, MOST_ARGUMENTS)) for name in names)
-    rules = [_random_rule(random, predicates) for _ in range(_many(random, MOST_RULES))]
+    # Often none, equal ones or 0.
+    constants = tuple(_value(random) for _ in range(_many(random, MOST_CONSTANTS)))
+    rules = [_random_rule(random, predicates, len(constants)) for _ in range(_many(random, MOST_RULES))]
     if random.random() < 0.5:
         rules.sort(key=lambda rule: rule.predicate)
-    return Book(predicates, tuple(rules))
+    return Book(predicates, tuple(rules), constants)
 
 
-def _random_rule(random: Random, predicates: tuple[Predicate, ...]) -> Rule:
+def _random_rule(random: Random, predicates: tuple[Predicate, ...], constants: int) -> Rule:
     predicate = random.randrange(len(predicates))
     variables = _names(random, _many(random, MOST_VARIABLES, predicates[predicate].arguments), "abcdefgh")
-    terms = [*range(len(variables)), NIL]
+    terms = [*range(len(variables)), *range(FIRST_CONSTANT, FIRST_CONSTANT + constants), NIL]
 
     def some(many: int) -> tuple[int, ...]:
         return tuple(random.choice(terms) for _ in range(many))

@@ -10,7 +10,7 @@ from workbench.asking import DOES_NOT_FIT, FITS, REFUSED, Answer, Asked, ask
 from workbench.book_bytes import decode_book, encode_book
 from workbench.draw import dot_text
 from workbench.library import decide
-from workbench.model import EQUAL, NIL, Book, Call, Cell, Condition, Pool, Predicate, Question, Record, Rule
+from workbench.model import EQUAL, FIRST_CONSTANT, NIL, Book, Call, Cell, Condition, Pool, Predicate, Question, Record, Rule, fixed_value, is_variable
 from workbench.names import Names
 from workbench.pool_bytes import decode_pool, encode_pool
 from workbench.question_bytes import decode_question, encode_question
@@ -40,19 +40,21 @@ def some_chains(chance: Random) -> Pool:
 
 
 def some_book(chance: Random) -> Book:
-    """Two predicates that can be empty, and rules with a cell, often of variables that nothing else fixes, so that many pools fit."""
+    """Two predicates that can be empty, and rules with a cell, often of variables that nothing else fixes, so that many pools fit. Half of
+    them have constants: values that pools often hold and one that they never do, equal ones, and 0."""
+    constants = chance.choice(((), (3, 90, 5, 3, 0)))
     predicates = (Predicate("p", 2), Predicate("q", 1))
     rules = [Rule(0, ("a", "b"), tuple(chance.choices([(), (Condition(chance.randrange(2), 0, 1),)])[0])), Rule(1, ("a",))]
     for _ in range(chance.randrange(2, 6)):
         head = chance.randrange(2)
         variables = tuple("abcde"[: predicates[head].arguments + chance.randrange(1, 4)])
-        terms = [*range(len(variables))] * 2 + [NIL]
+        terms = [*range(len(variables))] * 2 + [NIL] + [FIRST_CONSTANT + place for place in range(len(constants)) if not chance.randrange(4)]
         cells = (Cell(chance.randrange(len(variables)), tuple(chance.choices(terms, k=2))),)
         calls = []
         for number in chance.choices((0, 1), k=chance.choice((0, 1, 1, 2, 3))):
             calls.append(Call(number, tuple(chance.choices(terms, k=predicates[number].arguments))))
         rules.append(Rule(head, variables, (), cells, tuple(calls)))
-    return Book(predicates, tuple(rules))
+    return Book(predicates, tuple(rules), constants)
 
 
 def subsets(addresses: list[int]) -> list[tuple[int, ...]]:
@@ -72,7 +74,7 @@ class ByHand(unittest.TestCase):
             rule = book.rules[line.rule]
 
             def value(term: int) -> int:
-                return 0 if term == NIL else line.values[term]
+                return line.values[term] if is_variable(term) else fixed_value(term, book.constants)
 
             self.assertEqual(rule.predicate, line.predicate)
             self.assertEqual(line.values[: len(line.arguments)], line.arguments)
@@ -152,7 +154,7 @@ class Readers(unittest.TestCase):
             whole = [encode_book(book), encode_pool(random_pool(chance)), encode_question(random_question(chance, book))]
             spoilt = chance.randrange(3)
             at = chance.randrange(len(whole[spoilt]))
-            whole[spoilt] = whole[spoilt][:at] + bytes([chance.choice((0, 1, 5, 9, 200, 255))]) + whole[spoilt][at + 1 :]
+            whole[spoilt] = whole[spoilt][:at] + bytes([chance.choice((0, 1, 5, 9, 128, 129, 135, 136, 200, 255))]) + whole[spoilt][at + 1 :]
             blocks.append(tuple(whole))
         for each in blocks:
             asked = of_blocks(*each)

@@ -40,7 +40,7 @@ class Bench(unittest.TestCase):
     def test_the_example(self) -> None:
         data = (ROOT / "crates" / "bench" / "stdin").read_bytes()
         self.assertEqual(encode_bench(*decode_bench(data)), data)
-        self.assertEqual([len(section) for section in decode_bench(data)], [22, 19, 10])
+        self.assertEqual([len(section) for section in decode_bench(data)], [23, 19, 10])
 
     def test_any_bytes_have_sections(self) -> None:
         random = Random(9)

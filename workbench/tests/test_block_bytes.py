@@ -4,7 +4,7 @@ import unittest
 
 from workbench.book_bytes import decode_book, encode_book, explain_book
 from workbench.mistake import Mistake
-from workbench.model import Pool, Question, Record
+from workbench.model import EQUAL, NIL, Call, Cell, Condition, Pool, Question, Record
 from workbench.pool_bytes import decode_pool, encode_pool, explain_pool
 from workbench.question_bytes import decode_question, encode_question, explain_question
 from workbench.tests.samples import HOUSE, program_cases
@@ -13,7 +13,7 @@ from workbench.tests.samples import HOUSE, program_cases
 SAID = {
     1: r"the book ends where .* is due$",
     2: r"stands for .* which is \d to \d+$",
-    3: r"(, and the last predicate is|, and the rule has|, which must be a variable|0 for equal or 1 for unequal)",
+    3: r"(, and the last predicate is|, and the rule has|, and the book has|, which must be a variable|0 for equal or 1 for unequal)",
     4: r"the book is complete before this byte",
     5: r"the snapshot ends where .* is due$",
     6: r"stands for .* which is \d to \d+$",
@@ -69,17 +69,41 @@ class Offsets(unittest.TestCase):
         with self.assertRaisesRegex(Mistake, rf"^byte {len(HOUSE)} of the book: .* before this byte: 2 bytes too many$"):
             explain_book(HOUSE + b"\0\0")
 
+    def test_a_book_from_before_there_were_constants(self) -> None:
+        with self.assertRaisesRegex(Mistake, r"^file: byte 22 of the book: .* too many; is it from before .* with 00 put in as byte 4, after "):
+            explain_book(HOUSE[:4] + HOUSE[5:], "file")
+        # This one could not be read with the byte either, so nothing is said of it.
+        with self.assertRaisesRegex(Mistake, r"^byte 22 of the book: .* too many$"):
+            explain_book(HOUSE[:4] + HOUSE[5:] + b"\0")
+
     def test_messages(self) -> None:
         rows = [
             ("00", "byte 0 of the book: 0 stands for the number of predicates, which is 1 to 8"),
             ("01 05", "byte 1 of the book: 5 stands for a number of arguments, which is 0 to 4"),
-            ("01 02 01 00 07", "byte 4 of the book: 7 stands for the number of bound variables, which is 0 to 6"),
-            ("01 00 01 01", "byte 3 of the book: 1 stands for the predicate of a rule, and the last predicate is 0"),
-            ("01 01 01 00 00 00 01 FF", "byte 7 of the book: nil stands for the address of a cell, which must be a variable"),
-            ("01 01 01 00 01 00 01 02", "byte 7 of the book: 2 stands for the address of a cell, and the rule has 2 variables"),
+            ("01 02 09", "byte 2 of the book: 9 stands for the number of constants, which is 0 to 8"),
+            ("01 02", "byte 2 of the book: the book ends where the number of constants is due"),
+            ("01 02 02 07 00 00 00 08 00", "byte 9 of the book: the book ends where a constant is due"),
+            ("01 02 00 01 00 07", "byte 5 of the book: 7 stands for the number of bound variables, which is 0 to 6"),
+            ("01 00 00 01 01", "byte 4 of the book: 1 stands for the predicate of a rule, and the last predicate is 0"),
+            ("01 01 00 01 00 00 00 01 FF", "byte 8 of the book: nil stands for the address of a cell, which must be a variable"),
+            ("01 01 00 01 00 01 00 01 02", "byte 8 of the book: 2 stands for the address of a cell, and the rule has 2 variables"),
+            ("01 01 00 01 00 00 01 00 80", "byte 8 of the book: 128 stands for a term of a condition, and the book has no constants"),
+            ("01 01 00 01 00 00 01 00 7F", "byte 8 of the book: 127 stands for a term of a condition, and the rule has 1 variable"),
         ]
         for data, message in rows:
             self.assertEqual(fault(bytes.fromhex(data), b"", b""), message)
+
+    def test_messages_about_constants(self) -> None:
+        rows = [
+            ("01 00 81", "byte 12 of the book: 129 stands for a term of a condition, and the book has 1 constant, from 128 on"),
+            ("01 00 80 FE", "byte 13 of the book: 254 stands for a term of a condition, and the book has 1 constant, from 128 on"),
+            ("00 01 80", "byte 12 of the book: 128 stands for the address of a cell, which must be a variable"),
+            ("00 01 FF", "byte 12 of the book: nil stands for the address of a cell, which must be a variable"),
+            ("00 01 00 01 81", "byte 14 of the book: 129 stands for a field, and the book has 1 constant, from 128 on"),
+            ("00 00 01 00 FE", "byte 14 of the book: 254 stands for an argument of a call, and the book has 1 constant, from 128 on"),
+        ]
+        for data, message in rows:
+            self.assertEqual(fault(bytes.fromhex("01 01 01 07 00 00 00 01 00 00" + data), b"", b""), message)
 
     def test_of_snapshots(self) -> None:
         rows = [
@@ -105,6 +129,15 @@ class Offsets(unittest.TestCase):
 
 
 class Encoding(unittest.TestCase):
+    def test_constants_stand_after_the_arguments(self) -> None:
+        data = bytes.fromhex("01 01 02 04 03 02 01 07 00 00 00 01  00 00 01 00 81 00  01 00 02 80 FF  01 00 81")
+        book = decode_book(data)
+        self.assertEqual(book.constants, (0x01020304, 7))
+        rule = book.rules[0]
+        self.assertEqual(rule.conditions, (Condition(EQUAL, 129, 0),))
+        self.assertEqual((rule.cells, rule.calls), ((Cell(0, (128, NIL)),), (Call(0, (129,)),)))
+        self.assertEqual(encode_book(book), data)
+
     def test_numbers_have_the_lowest_byte_first(self) -> None:
         pool = Pool((Record(10, (0x01020304,)), Record(2**32 - 1, ())))
         self.assertEqual(encode_pool(pool).hex(" "), "02 0a 00 00 00 01 04 03 02 01 ff ff ff ff 00")

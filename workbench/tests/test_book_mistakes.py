@@ -65,7 +65,6 @@ LIMITS = [
 ]
 
 NAMES = [
-    ("p { a = b => p(‸1) }", "1 is a number, and rules have names and nil only: write a name"),
     ("‸nil { emp => nil() }", "nil is a reserved word and no name of a predicate: write another name"),
     ("p { exists ‸a: a = b => p(a) }", "a is an argument of the head, and no name of exists: take it off the list"),
     ("p { exists c, ‸c: a = b => p(a) }", "c is listed twice: take one of them away"),
@@ -73,18 +72,12 @@ NAMES = [
     ("p { ‸emp() => p(a) }", "emp is a reserved word and no name of a predicate: write another name"),
     ("p { ‸emp -> a => p(a) }", "emp is a reserved word and no name of a variable: write another name"),
     ("p { ‸nil -> x => p(x) }", "nil is no address: the address of a cell must be a name"),
-    ("p { ‸10 -> x => p(x) }", "10 is a number, and rules have names and nil only: write a name"),
-    ("p { a = ‸0 => p(a) }", "0 is a number, and rules have names and nil only: write nil"),
-    ("p { a = ‸0x1F => p(a) }", "0x1F is a number, and rules have names and nil only: write a name"),
     ("p { ‸segmnt(a) => p(a) } ; segment(a) { }", "there is no predicate segmnt in this book: did you mean segment?"),
     ("p { emp => p(a) } ; ‸@", "the character @ (U+0040) has no meaning here: take it away; names have letters, digits, _ and '"),
     ("p { a‸² = b => p(a) }", "the character ² (U+00B2) has no meaning here: take it away; names have letters, digits, _ and '"),
     ("p { ‸2a = b => p(a) }", "2a is no number and no name: write base sixteen after 0x; a name begins with a letter"),
     ("‸exists { emp => p() }", "exists is a reserved word and no name of a predicate: write another name"),
-    ("p(‸10) { }", "10 is a number, and rules have names and nil only: write a name"),
     ("p { ‸P(a) => p(a) }", "there is no predicate P in this book: did you mean p?"),
-    ("p { a -> b * ‸7 => p(a) }", "7 is a number, and rules have names and nil only: write a name"),
-    ("p { emp => ‸7(a) }", "7 is a number, and rules have names and nil only: write a name"),
     ("p { emp => ‸nil(a) }", "nil is a reserved word and no name of a predicate: write another name"),
     ("p { emp => p(‸emp) }", "emp is a reserved word and no name of a variable: write another name"),
     ("p { p(‸exists) => p(a) }", "exists is a reserved word and no name of a variable: write another name"),
@@ -99,6 +92,49 @@ NAMES = [
     ("p { a -> ‸_ => p(a) }", "_ alone is no name: write a name of its own for each value that may be any"),
     ("p { emp => p(‸_) }", "_ alone is no name: write a name of its own for each value that may be any"),
     ("p { exists ‸_: emp => p() }", "_ alone is no name: write a name of its own for each value that may be any"),
+]
+
+NINE = " * ".join(f"a != {number}" for number in range(1, 9))
+NUMBERS = [
+    ("p { ‸7 -> x => p(x) }", "7 is a number, and the address of a cell must be a name: write a name a there, and the condition a = 7"),
+    ("p { a = b *\n  ‸0x07 -> () => p(a) }", "0x07 is a number, and the address of a cell must be a name: write a name a there, and the condition a = 0x07"),
+    ("p { ‸0 -> x => p(x) }", "0 is no address: the address of a cell must be a name"),
+    ("p { ‸0x00 -> x => p(x) }", "0x00 is no address: the address of a cell must be a name"),
+    ("p { a = b => p(‸1) }", "1 cannot be an argument of a head: write a name a there, and the condition a = 1"),
+    ("p(a, ‸10) { }", "10 cannot be an argument of a head: write a name a there, and the condition a = 10"),
+    ("p { a -> b * ‸7 => p(a) }", "7 alone is no atom: write emp for nothing, or a condition such as a = 7"),
+    ("p { ‸7(a) => p(a) }", "7 is a number and no name of a predicate: write another name"),
+    ("p { emp => ‸7(a) }", "the head is missing before 7: write p(a, b) with the arguments of p"),
+    ("p { exists ‸7: emp => p() }", "a name is missing before 7: write exists c, d: and then the atoms"),
+    ("p { a = ‸4294967296 => p(a) }", "4294967296 is too large: a value is at most 4,294,967,295 (0xFFFFFFFF)"),
+    ("p { a -> (b, ‸0x100000000) => p(a) }", "0x100000000 is too large: a value is at most 4,294,967,295 (0xFFFFFFFF)"),
+    ("p { p(‸007) => p(a) }", "007 begins with 0: write 7, or 0x and the digits for base sixteen"),
+    ("p { a -> 7 ‸8 => p(a) }", "* or => is missing before 8: write * between atoms, and => before the head"),
+    ("p { a -> 7‸, 8 = a => p(a) }", "write * and not , between atoms"),
+    ("p { p(7 ‸8) => p(a) }", ", is missing before 8: write , between arguments and ) after the last"),
+    (f"p {{ {NINE} * a -> 8, 1, 0, ‸0x09 => p(a) }}", "this book has a ninth number, 0x09: a book has at most 8 different ones"),
+    (f"p {{ {NINE} => p(a) | p(1, ‸9) => p(a) }}", "this book has a ninth number, 9: a book has at most 8 different ones"),
+    (f"p {{ {NINE} => p(a) }} ; q {{ p(0x01) * p(0) => q() |\n  p(‸10) => q() }}", "this book has a ninth number, 10: a book has at most 8 different ones"),
+    ("constants 1, 1, 2, 3, 4, 5, 6 ; p { a = 7 * a = ‸8 => p(a) }", "this book has a ninth number, 8: a book has at most 8 different ones, with those listed"),
+    ("constants 1, 1, 1, 1, 1, 1, 1, 1, ‸1 ; p() { }", "this book has a ninth constant: a book has at most 8 constants"),
+    ("constants ‸; p() { }", "a number is missing before \";\": write constants 7, 8 ; and then the blocks"),
+    ("constants 7, ‸a ; p() { }", "a number is missing before a: write constants 7, 8 ; and then the blocks"),
+    ("constants‸", "a number is missing before the end: write constants 7, 8 ; and then the blocks"),
+    ("constants 7 ‸8 ; p() { }", ", is missing before 8: write constants 7, 8 ; and then the blocks"),
+    ("constants 7, 8\n‸p() { }", "; is missing before p: write constants 7, 8 ; and then the blocks"),
+    ("constants 7, ‸4294967296 ; p() { }", "4294967296 is too large: a value is at most 4,294,967,295 (0xFFFFFFFF)"),
+    ("constants 7 ;‸", "there is no block here: a book has at least one, such as p { emp => p() }"),
+    ("p() { } ; ‸constants 7 ;", "a list of constants stands once and ahead of all blocks: move it there"),
+    ("constants 7 ; ‸constants 8 ; p() { }", "a list of constants stands once and ahead of all blocks: move it there"),
+    ("p { a = ‸@1 => p(a) }", "@1 names no constant, since no constants are listed ahead of the blocks: write a number"),
+    ("p { a = 7 * a = ‸@1 => p(a) }", "@1 names no constant, since no constants are listed ahead of the blocks: write a number"),
+    ("constants 7 ; p { a = ‸@2 => p(a) }", "@2 names no constant, since 1 constant is listed ahead of the blocks: write @1"),
+    ("constants 7, 7 ; p { a = 8 * a -> ‸@3 => p(a) }", "@3 names no constant, since 2 constants are listed ahead of the blocks: write @1 to @2"),
+    ("constants 7, 7 ; p { p(‸@0) => p(a) }", "@0 names no constant, since 2 constants are listed ahead of the blocks: write @1 to @2"),
+    ("constants 7, 7 ; p { p(‸@01) => p(a) }", "@01 names no constant, since 2 constants are listed ahead of the blocks: write @1 to @2"),
+    ("constants 7 ; p { ‸@1 -> a => p(a) }", "@1 is a number, and the address of a cell must be a name: write a name a there, and the condition a = @1"),
+    ("constants 7 ; p { emp => p(‸@1) }", "@1 cannot be an argument of a head: write a name a there, and the condition a = @1"),
+    ("p { a = ‸@ => p(a) }", "the character @ (U+0040) has no meaning here: take it away; names have letters, digits, _ and '"),
 ]
 
 HEADS = [
@@ -137,9 +173,9 @@ OTHER_TEXTS = [
 FORM = [
     ("p { a -> (b ‸=> p(a) }", ") is missing before =>: write , between fields and ) after the last"),
     ("p { a -> b ‸c => p(a) }", "* or => is missing before c: write * between atoms, and => before the head"),
-    ("p { a -> ‸=> p(a) }", "a field is missing before =>: write a name or nil; a cell without fields is a -> ()"),
+    ("p { a -> ‸=> p(a) }", "a field is missing before =>: write a name, a number or nil; a cell without fields is a -> ()"),
     ("p { a -> ‸q(b) => p(a) }", "q begins another atom where a field is due: write a -> c * and then that atom"),
-    ("p { a = ‸=> p(a) }", "a term is missing before =>: write a name or nil"),
+    ("p { a = ‸=> p(a) }", "a term is missing before =>: write a name, a number or nil"),
     ("p { ‸= b => p(a) }", "an atom is missing before =: write one, or emp where there is none"),
     ("p { ‸(a = b) => p(a) }", "( begins no atom: write atoms without parentheses around them"),
     ("p { ‸=> p(a) }", "an atom is missing before =>: write one, or emp where there is none"),
@@ -169,9 +205,9 @@ FORM = [
     ("p { ‸a => b => p(a) }", "a alone is no atom: write a() for a predicate without arguments, or =, != or -> after it"),
     ("p { a = b ‸= c => p(a) }", "= cannot follow an atom: write * and another atom, or => and the head"),
     ("p { p(a ‸=> p(a) }", ") is missing before =>: write , between arguments and ) after the last"),
-    ("p { p(a, ‸) => p(a) }", "a term is missing before ): write a name or nil"),
-    ("p { p(‸, a) => p(a) }", "a term is missing before \",\": write a name or nil"),
-    ("p { a -> b, ‸=> p(a) }", "a field is missing before =>: write a name or nil; a cell without fields is a -> ()"),
+    ("p { p(a, ‸) => p(a) }", "a term is missing before ): write a name, a number or nil"),
+    ("p { p(‸, a) => p(a) }", "a term is missing before \",\": write a name, a number or nil"),
+    ("p { a -> b, ‸=> p(a) }", "a field is missing before =>: write a name, a number or nil; a cell without fields is a -> ()"),
     ("p { emp => p(a ‸b) }", ", is missing before b: write , between arguments and ) after the last"),
     ("p {\n  a = b => p(a)\n  ‸a -> b => p(a)\n}", "| is missing: write | between two cases, before a"),
     ("p { emp => p()‸ ", "} is missing: write } after the last case of p, whose block begins on line 1"),
@@ -184,7 +220,7 @@ FORM = [
     ("p { exists ‸=> p() }", "a name is missing before =>: write exists c, d: and then the atoms"),
     ("p { exists c, ‸=> p() }", "a name is missing before =>: write exists c, d: and then the atoms"),
     ("p(a) { emp => p(a) } ‸)", ") closes nothing: take it away"),
-    ("p { a -> b, c, d, ‸(e) => p(a) }", "a field is missing before (: write a name or nil; a cell without fields is a -> ()"),
+    ("p { a -> b, c, d, ‸(e) => p(a) }", "a field is missing before (: write a name, a number or nil; a cell without fields is a -> ()"),
     ("p { a -> (b, c) ‸d => p(a) }", "* or => is missing before d: write * between atoms, and => before the head"),
 ]
 
@@ -198,6 +234,9 @@ class BookMistakes(unittest.TestCase):
 
     def test_names(self) -> None:
         check_rows(self, NAMES, parse_book)
+
+    def test_numbers(self) -> None:
+        check_rows(self, NUMBERS, parse_book)
 
     def test_heads(self) -> None:
         check_rows(self, HEADS, parse_book)

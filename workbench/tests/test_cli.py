@@ -305,7 +305,7 @@ class Inside(unittest.TestCase):
 
     def test_nothing_to_save(self):
         path, cut = self.folder / "unfolding", self.folder / "cut"
-        cut.write_bytes(bytes.fromhex("01 02 02 00"))
+        cut.write_bytes(bytes.fromhex("01 02 00 02 00"))
         for book, part, status, reason in (
             ("house", [], 1, "the pool does not fit"),
             ("house", ["--part"], 1, "no part fits"),
@@ -318,7 +318,7 @@ class Inside(unittest.TestCase):
 
     def test_refused_bytes(self):
         book = self.folder / "cut"
-        book.write_bytes(bytes.fromhex("01 02 02 00"))
+        book.write_bytes(bytes.fromhex("01 02 00 02 00"))
         status, out, said = self.run_verb("ask", str(book), "examples/ring.pool", "whatever(1)")
         self.assertEqual((status, said), (2, ""))
         self.assertRegex(out, rb"^refusal 1: ")
@@ -333,7 +333,7 @@ class Inside(unittest.TestCase):
         ):
             status, out, _ = self.run_verb(verb[0], str(book), "examples/ring.pool", *verb[1:])
             self.assertEqual((status, out[:10]), (2, b"refusal 1:"))
-            self.assertIn(b"\n  byte 4 of the book: ", out)
+            self.assertIn(b"\n  byte 5 of the book: ", out)
         self.assertFalse((self.folder / "a.dot").exists())
 
     def test_refused_pool_among_others(self):

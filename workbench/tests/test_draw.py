@@ -35,6 +35,7 @@ DRAWN = {
     "lost": ("house.book", "lost.pool", "queue_and_free(0x10, 0x40)"),
     "part": ("house.book", "foreign.pool", "segment(0x10, nil)"),
     "part-none": ("house.book", "lost.pool", "queue_and_free(0x10, 0x40)"),
+    "types": ("plain/types.book", "types.pool", "desk(0x10)"),
 }
 OF_A_PART = ("part", "part-none")
 
@@ -81,6 +82,18 @@ class Said(unittest.TestCase):
         # Records to which nothing leads are no reason here.
         self.assertIn("</B>: no part fits, not even the empty one<", dot_text(answered("part-none")))
         self.assertNotIn("not reached", dot_text(answered("part-none")))
+
+    def test_numbers_of_the_book(self):
+        """They stand in their fields, and no arrow leads from there; one that the question names has a box for the question's arrow."""
+        text = dot_text(answered("types"))
+        self.assertIn('<TD PORT="f1" BGCOLOR="white">0x51</TD>', text)
+        self.assertNotIn("loose", text)
+        self.assertNotIn("f1:", text)
+        book = parse_book("p { a -> 7, 8, 0, 20 => p(a, b) }", "book")
+        text = dot_text(ask(asked(book, parse_pool("10: 7, 9, nil, 20\n20: 8, 7", "pool"), Question(0, (10, 8)))))
+        self.assertEqual([value for value in (7, 8, 9, 20) if f"loose{value} [" in text], [8, 9])
+        self.assertEqual([port for port in range(1, 5) if f"r10:f{port}:" in text], [2, 3, 4])
+        self.assertNotIn("r20:f", text)
 
     def test_no_record_and_no_hints(self):
         self.assertIn("the pool has no record", dot_text(ask(asked(H, Pool(()), Question(0, (5, 5))))))

@@ -40,6 +40,14 @@ class Looked(unittest.TestCase):
         self.assertEqual(found.dangling, (Dangling(Place(10, 2), 7, False), Dangling(Place(20, 1), 8, True)))
         self.assertEqual(found.outside, (Outside(2, 8), Outside(3, 9)))
 
+    def test_a_constant_is_meant_to_name_no_record(self):
+        """It counts all the same where it is a record's address."""
+        found = hints(pool(r10=(7, 20), r20=(8, 30), r30=(7, 20)), Question(0, (10, 7, 9)), (7, 20, 0))
+        self.assertEqual((found.dangling, found.outside), ((Dangling(Place(20, 1), 8, False),), (Outside(3, 9),)))
+        self.assertEqual(hints(pool(r10=(7, 20), r20=(7, 20)), Question(0, (10,)), (7, 20)).held, (Held(20, (Place(10, 2), Place(20, 2))),))
+        found = part_hints(pool(r10=(7,), r20=(8,)), Question(0, (10, 7, 9)), (7,))
+        self.assertEqual(found, Hints(outside=(Outside(3, 9),)))
+
     def test_reached_nearest_first(self):
         self.assertEqual(reached_from((5, 1), pool(r1=(2, 3), r2=(4,), r3=(1, 0), r4=(9,), r6=(1,))), [1, 2, 3, 4])
 

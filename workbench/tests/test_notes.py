@@ -28,6 +28,7 @@ class Notes(unittest.TestCase):
             "a -> c => q(a, b)",  # a field that may be any value
             "c -> a => q(a, b)",
             "q(a, nil) => q(a, b)",  # an argument, and nil
+            "q(a, 7) * b != 0x08 => q(a, b)",  # numbers
             "exists c: emp => q(a, b)",
             "exists other: a != other => q(a, b)",  # it is meant
         ):

@@ -9,7 +9,7 @@ from random import Random
 from workbench.book_bytes import decode_book, encode_book
 from workbench.book_text import parse_book
 from workbench.library import ROOT
-from workbench.model import EQUAL, NIL, UNEQUAL, Book, Cell, Condition, Predicate, Rule
+from workbench.model import EQUAL, FIRST_CONSTANT, NIL, UNEQUAL, Book, Cell, Condition, Predicate, Rule, fixed_value, is_variable
 from workbench.plain import fixed_terms, met_by_both, names_apart, not_plain
 from workbench.sources import read_book
 from workbench.tests.engine_samples import H, L, PLAIN, S
@@ -19,10 +19,14 @@ def reason(text: str) -> str:
     return not_plain(parse_book(text, "book"))
 
 
-def some_rule(chance: Random, arguments: int, bound: int) -> Rule:
-    """With a few conditions over its variables and nil, and cells of any of them."""
+# Equal ones, 0 and two values, which are the first numbers that would be tried.
+CONSTANTS = (1, 2, 1, 0)
+
+
+def some_rule(chance: Random, arguments: int, bound: int, constants: int = 0) -> Rule:
+    """With a few conditions over its variables, nil and so many constants, and cells of any of them."""
     variables = arguments + bound
-    terms = [*range(variables), NIL]
+    terms = [*range(variables), *range(FIRST_CONSTANT, FIRST_CONSTANT + constants), NIL]
     conditions = [Condition(chance.randrange(2), *chance.choices(terms, k=2)) for _ in range(chance.randrange(4))]
     cells = [Cell(chance.randrange(variables), tuple(chance.choices(terms, k=2))) for _ in range(chance.randrange(3) if variables else 0)]
     return Rule(0, tuple("abcdefgh"[:variables]), tuple(conditions), tuple(cells))
@@ -39,7 +43,7 @@ class Books(unittest.TestCase):
     def test_examples(self):
         books = {str(path.relative_to(ROOT / "examples")): path for path in (ROOT / "examples").rglob("*.book") if "mistakes" not in path.parts}
         plain = [name for name, path in sorted(books.items()) if not not_plain(read_book(str(path))[0])]
-        self.assertEqual(plain, [f"plain/{name}.book" for name in ("dll", "list", "lists", "parents", "segment", "tree")])
+        self.assertEqual(plain, [f"plain/{name}.book" for name in ("dll", "list", "lists", "parents", "segment", "tree", "types")])
 
     def test_near_misses_miss_one_sentence(self):
         """Each misses another one, and without the rule named there the rest is plain."""
@@ -93,6 +97,14 @@ class Variables(unittest.TestCase):
         for atoms in ("emp", "a != b", "z = nil", "nil = z", "z = a", "b = z", "a -> z", "a -> (nil, a, z)", "b -> (z, z)"):
             self.is_fixed(atoms)
 
+    def test_by_a_constant(self):
+        for atoms in ("z = 7", "0x07 = z", "z = 0", "y = 7 * z = y", "z = 7 * z = 8", "y = 7 * y -> z"):
+            self.is_fixed(atoms)
+        self.is_open("exists z: z != 7")
+        self.is_open("exists z: 7 = 7 * a = 8")
+        self.is_open("z -> 7")
+        self.is_open("exists z: a -> b * p(z, 7)")
+
     def test_by_chains_either_way_and_in_any_order(self):
         for atoms in (
             "x = a * y = x * z = y",
@@ -140,7 +152,7 @@ class Variables(unittest.TestCase):
         chance = Random(3)
         for _ in range(500):
             arguments = chance.randrange(3)
-            rule = some_rule(chance, arguments, chance.randrange(1, 5))
+            rule = some_rule(chance, arguments, chance.randrange(1, 5), chance.randrange(3))
             turned = [replace(each, left=each.right, right=each.left) for each in chance.sample(rule.conditions, len(rule.conditions))]
             other = replace(rule, conditions=tuple(turned), cells=tuple(chance.sample(rule.cells, len(rule.cells))))
             self.assertEqual(fixed_terms(rule, arguments), fixed_terms(other, arguments))
@@ -162,6 +174,36 @@ class Pairs(unittest.TestCase):
         self.apart("a = nil", "a != nil")
         self.apart("a = b", "b != a")
         self.apart("nil = c", "a = b * c != nil")
+
+    def test_constants(self):
+        self.apart("a = 7", "a != 7")
+        self.apart("a = 7", "a = 8")
+        self.apart("a = 7", "0x08 = a")
+        self.apart("a = 7 * b = 7", "a != b")
+        self.apart("a = b * b = 7", "a = 8")
+        self.apart("a = x * x = 7", "y = a * y = b * b = 8")
+        self.apart("a = 7", "a = nil")
+        self.apart("a = 0", "a != nil")
+        self.together("a = 7", "b = 8", "p(7, 8, 1)")
+        self.assertRegex(reason("p { a = 0x07 => p(a, b) | b = 7 => p(a, b) }"), r"by p\(0x07, 0x07\)$")
+        self.together("a != 1", "b != 2 * a != 0", "p(3, 4, 5)")
+        self.together("a -> 7", "a -> 8", "p(1, 2, 3)")
+        said = "(x is not in the head and may have another value in each)"
+        self.together("a -> x * x = 7", "a -> x * x = 8", f"p(1, 2, 3) {said}")
+
+    def test_constants_are_their_values(self):
+        """Equal ones are the same, and 0 is nil, whatever their places."""
+        text = "constants 7, 7, 0, 8 ; p { %s => p(a) | %s => p(a) }"
+        for first, second in (("a = @1", "a != @2"), ("a = @3", "a != nil"), ("a = @2", "a = @4"), ("a = @3", "a = 7")):
+            self.assertEqual(reason(text % (first, second)), "")
+        for first, second, example in (("a = @1", "a = @2", "7"), ("a = @3", "a = nil", "nil"), ("a != 8", "a != nil", "1")):
+            self.assertRegex(reason(text % (first, second)), rf"by p\({example}\)$")
+
+    def test_a_contradiction_between_constants(self):
+        for atoms in ("7 = 8", "7 != 7", "a = 7 * a = 8", "a = 7 * a = nil", "a = b * b = c * a = 7 * c = 8"):
+            self.apart(atoms, "emp")
+            self.apart(atoms, atoms)
+        self.together("7 = 7 * 7 != 8", "emp", "p(1, 2, 3)")
 
     def test_cells_do_not_keep_rules_apart(self):
         self.together("a = nil", "a -> b", "p(nil, 1, 2)")
@@ -239,7 +281,10 @@ def bound_values(rule: Rule, arguments: tuple[int, ...], most: int) -> Iterator[
     """Numbers up to `most` for the bound variables that meet the conditions, by trying all."""
 
     def holds(values: tuple[int, ...]) -> bool:
-        pairs = [(each.kind, *(0 if term == NIL else values[term] for term in (each.left, each.right))) for each in rule.conditions]
+        def value(term: int) -> int:
+            return values[term] if is_variable(term) else fixed_value(term, CONSTANTS)
+
+        pairs = [(each.kind, value(each.left), value(each.right)) for each in rule.conditions]
         return all((left == right) == (kind == EQUAL) for kind, left, right in pairs)
 
     for bound in product(range(most + 1), repeat=len(rule.variables) - len(arguments)):
@@ -253,15 +298,17 @@ def met(rule: Rule, arguments: tuple[int, ...], most: int) -> bool:
 
 class ByTrying(unittest.TestCase):
     def test_the_third_sentence(self):
-        """Where there are n variables, numbers up to n are enough, since no more are ever different from one another and from nil."""
+        """Where there are n variables and the constants are 1 and 2, numbers up to n + 2 are enough, since no more are ever different from one
+        another, from these and from nil."""
         chance = Random(4)
-        seen = {True: 0, False: 0}
-        for case in range(600):
+        seen = {(met, some): 0 for met in (True, False) for some in (True, False)}
+        for case in range(900):
             arguments = chance.randrange(3)
-            first, second = (some_rule(chance, arguments, chance.randrange(3)) for _ in range(2))
-            most = len(first.variables) + len(second.variables) - arguments
-            found = met_by_both(first, second, arguments)
-            seen[found is not None] += 1
+            constants = len(CONSTANTS) if case % 2 else 0
+            first, second = (some_rule(chance, arguments, chance.randrange(3), constants) for _ in range(2))
+            most = len(first.variables) + len(second.variables) - arguments + 2 * bool(constants)
+            found = met_by_both(first, second, arguments, CONSTANTS[:constants])
+            seen[found is not None, bool(constants)] += 1
             with self.subTest(case=case):
                 if found is None:
                     for values in product(range(most + 1), repeat=arguments):
@@ -269,8 +316,8 @@ class ByTrying(unittest.TestCase):
                 else:
                     self.assertEqual(len(found), arguments)
                     self.assertTrue(met(first, found, most) and met(second, found, most), found)
-                self.assertEqual(met_by_both(second, first, arguments) is None, found is None)
-                book = Book((Predicate("p", arguments),), (replace(first, cells=()), replace(second, cells=())))
+                self.assertEqual(met_by_both(second, first, arguments, CONSTANTS[:constants]) is None, found is None)
+                book = Book((Predicate("p", arguments),), (replace(first, cells=()), replace(second, cells=())), CONSTANTS[:constants])
                 if all(set(range(len(rule.variables))) <= fixed_terms(rule, arguments) for rule in book.rules):
                     self.assertEqual(not_plain(book) == "", found is None)
         self.assertGreater(min(seen.values()), 100, seen)
@@ -281,9 +328,10 @@ class ByTrying(unittest.TestCase):
         chance = Random(5)
         named = [0, 0]
         for case in range(1000):
-            arguments = chance.randrange(3)
-            first, second = (some_rule(chance, arguments, chance.randrange(1, 3)) for _ in range(2))
-            most = len(first.variables) + len(second.variables) - arguments
+            arguments = chance.randrange(3 - case % 2)
+            constants = case % 2
+            first, second = (some_rule(chance, arguments, chance.randrange(1, 3), constants) for _ in range(2))
+            most = len(first.variables) + len(second.variables) - arguments + constants
             in_conditions = [{term for each in rule.conditions for term in (each.left, each.right)} for rule in (first, second)]
             shared = [name for term, name in enumerate(first.variables) if term >= arguments and all(term in terms for terms in in_conditions)]
             met_so = [
@@ -293,6 +341,6 @@ class ByTrying(unittest.TestCase):
             ]
             with self.subTest(case=case):
                 due = [] if [False] * len(shared) in met_so else [name for i, name in enumerate(shared) if any(so[i] for so in met_so)]
-                self.assertEqual(names_apart(first, second, arguments), due)
+                self.assertEqual(names_apart(first, second, arguments, CONSTANTS[:constants]), due)
                 named[bool(due)] += 1
         self.assertGreater(min(named), 20, named)

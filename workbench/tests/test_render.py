@@ -5,6 +5,7 @@ from unittest import mock
 from workbench import library
 from workbench.asking import DOES_NOT_FIT, FITS, REFUSED, Answer, Asked, ask, ask_next
 from workbench.book_bytes import encode_book
+from workbench.book_text import parse_book
 from workbench.library import Reply
 from workbench.model import Book, Call, Condition, Pool, Predicate, Question, Record, Rule, UNEQUAL
 from workbench.pool_bytes import encode_pool
@@ -44,6 +45,19 @@ class Fits(unittest.TestCase):
         question = replace(FROM_TEN_TO_TEN, spellings=((10, "0xa"),))
         self.assertIn("takes 0x0A ", text(L, pool, FROM_TEN_TO_TEN))
         self.assertIn("segment(0xa, 0xa)", text(L, TWO, question))
+
+    def test_numbers_of_the_book(self):
+        """None is a spare. The book's way of writing one counts only where the pool and the question do not have it."""
+        book = parse_book("p { q(a, 0x07) * q(a, 0x14) * c != 0x09 => p(a) } ; q { emp => q(a, b) }", "book")
+        self.assertEqual(
+            text(book, NOTHING, Question(0, (20,))),
+            "fits\n"
+            "p(20)           rule 1 (line 1)   takes nothing   c = nil\n"
+            "  q(20, 0x07)   rule 2 (line 1)   takes nothing\n"
+            "  q(20, 20)     rule 2 (line 1)   takes nothing\n",
+        )
+        said = text(replace(S, constants=(1, 2)), NOTHING, Question(0, (0,)))
+        self.assertEqual(said, "fits\nP(nil)        rule 1   takes nothing   b = 1\n  Q(nil, 1)   rule 2   takes nothing\n")
 
     def test_no_arguments(self):
         book = Book((Predicate("p", 0),), (Rule(0, ()),))
@@ -89,6 +103,14 @@ class DoesNotFit(unittest.TestCase):
         answer = text(H, TWO, Question(2, (10, 0)))
         self.assertTrue(answer.startswith("does not fit\nNo hints: "))
         self.assertEqual(len(answer.splitlines()), 3)
+
+    def test_numbers_of_the_book(self):
+        book = parse_book("p { a -> 7, 8 => p(a) }", "book")
+        passed = "Numbers that stand in the book, such as type codes, are passed over.\n"
+        said = text(book, Pool((Record(10, (7, 7)),)), Question(0, (10,)))
+        self.assertRegex(said, f"^does not fit\nNo hints: .*\n.*\n{passed}$")
+        said = text(book, Pool((Record(10, (7, 9)),)), Question(0, (10,)))
+        self.assertRegex(said, f"^does not fit\nHints .*\n{passed}  field 2 of 10 holds 9, which is not nil and names no record\n$")
 
     def test_no_hints_about_a_doubly_linked_list(self):
         """Its middle is held twice, which is no hint, and not to be denied either."""
@@ -202,7 +224,7 @@ class Refused(unittest.TestCase):
         whole = replace(asked(L, TWO, FROM_TEN_TO_TEN), book_bytes=encode_book(L)[:-1], book=None)
         first, second = answer_text(ask(whole)).splitlines()
         self.assertRegex(first, "^refusal 1: the book ends too early: ")
-        self.assertRegex(second, "^  byte 21 of the book: ")
+        self.assertRegex(second, "^  byte 22 of the book: ")
 
     def test_too_many_facts(self):
         # Four free arguments over some ninety kept values are far more than 65,535 facts.

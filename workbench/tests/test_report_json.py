@@ -2,8 +2,11 @@ import json
 import unittest
 
 from workbench.asking import ask, ask_next
+from workbench.book_text import parse_book
+from workbench.library import ROOT
 from workbench.mistake import Mistake
 from workbench.model import Pool, Question, Record
+from workbench.pool_text import parse_pool
 from workbench.report_json import not_read, report, result
 from workbench.tests.engine_samples import FROM_TEN_TO_TEN, FROM_TEN_TO_TWENTY, H, L, TWO
 from workbench.tests.test_render import asked
@@ -55,6 +58,20 @@ class Report(unittest.TestCase):
                 "part": None,
             },
         )
+
+    def test_numbers_of_the_book(self):
+        book = parse_book((ROOT / "examples/plain/types.book").read_text(), "types.book")
+        fit = parse_pool((ROOT / "examples/types.pool").read_text(), "types.pool")
+        found = result("types.pool", ask(asked(book, fit, Question(0, (0x10,)))))
+        last = found["unfolding"][-1]
+        self.assertEqual((found["answer"], last["predicate"], last["values"], last["book_line"]), ("fits", "desk", [0x10], 2))
+        called = [found["unfolding"][number - 1] for number in last["calls"]]
+        self.assertEqual([(line["predicate"], line["values"]) for line in called], [("chain", [0x20, 0x51]), ("chain", [0x40, 0x54])])
+        mixed = parse_pool((ROOT / "examples/types-mixed.pool").read_text(), "types-mixed.pool")
+        found = result("types-mixed.pool", ask(asked(book, mixed, Question(0, (0x10,)))))
+        self.assertEqual((found["answer"], found["hints"]), ("does not fit", NO_HINTS))
+        found = result("types-mixed.pool", ask(asked(book, mixed, Question(1, (0x10, 0x99)))))
+        self.assertEqual(found["hints"], NO_HINTS | {"outside": [{"argument": 2, "value": 0x99}]})
 
     def test_a_part(self):
         found = result("two.pool", ask(asked(L, TWO, FROM_TEN_TO_TWENTY, some_part=True)))

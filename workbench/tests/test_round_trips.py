@@ -6,7 +6,7 @@ from random import Random
 
 from workbench.book_bytes import decode_book, encode_book
 from workbench.book_text import parse_book, write_book
-from workbench.model import NIL, Book, Rule
+from workbench.model import FIRST_CONSTANT, MOST_VALUE, NIL, Book, Rule
 from workbench.pool_bytes import decode_pool, encode_pool
 from workbench.pool_text import parse_pool, write_pool
 from workbench.question_bytes import decode_question, encode_question
@@ -18,7 +18,8 @@ MANY = 1500
 
 
 def without_lines(book: Book) -> Book:
-    return replace(book, rules=tuple(replace(rule, line=0) for rule in book.rules))
+    """Nor how its numbers were written."""
+    return replace(book, rules=tuple(replace(rule, line=0) for rule in book.rules), spellings=())
 
 
 def terms_of(rule: Rule) -> set[int]:
@@ -43,13 +44,31 @@ def reached(book: Book) -> set[str]:
         found |= {"nil" for term in terms_of(rule) if term == NIL}
         found |= {"no atom"} if not rule.conditions and not rule.cells and not rule.calls else set()
         found |= {"a call of a later predicate" for call in rule.calls if call.predicate > rule.predicate}
-    return found
+    return found | constants_reached(book)
+
+
+def constants_reached(book: Book) -> set[str]:
+    places = {
+        "left of a condition": [each.left for rule in book.rules for each in rule.conditions],
+        "right of a condition": [each.right for rule in book.rules for each in rule.conditions],
+        "in a field": [term for rule in book.rules for each in rule.cells for term in each.fields],
+        "in a call": [term for rule in book.rules for each in rule.calls for term in each.terms],
+    }
+    found = {f"{len(book.constants)} constants"} | {"no list" for _ in book.constants[:1] if "constants " not in write_book(book)}
+    used = {term - FIRST_CONSTANT for terms in places.values() for term in terms if FIRST_CONSTANT <= term < NIL}
+    found |= {f"a constant {place}" for place, terms in places.items() if any(FIRST_CONSTANT <= term < NIL for term in terms)}
+    found |= {"an unused constant" for number in range(len(book.constants)) if number not in used}
+    found |= {"a constant of 0" for number in used if book.constants[number] == 0}
+    found |= {"a constant of the largest value" for number in used if book.constants[number] == MOST_VALUE}
+    return found | {"equal constants" for number in used for other in used if number < other and book.constants[number] == book.constants[other]}
 
 
 ALL_BOOKS = {
     "1 predicates", "8 predicates", "0 rules", "16 rules", "0 arguments", "4 arguments", "0 variables", "8 variables", "0 conditions",
     "8 conditions", "0 cells", "4 cells", "0 fields", "4 fields", "0 calls", "3 calls", "a predicate without rules", "interleaved",
-    "a later predicate first", "a bound variable that occurs nowhere", "nil", "no atom", "a call of a later predicate",
+    "a later predicate first", "a bound variable that occurs nowhere", "nil", "no atom", "a call of a later predicate", "0 constants",
+    "1 constants", "8 constants", "no list", "a constant left of a condition", "a constant right of a condition", "a constant in a field",
+    "a constant in a call", "an unused constant", "a constant of 0", "a constant of the largest value", "equal constants",
 }
 
 

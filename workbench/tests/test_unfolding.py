@@ -1,5 +1,6 @@
 import random
 import unittest
+from dataclasses import replace
 
 from workbench.mistake import Mistake
 from workbench.model import Book, Pool, Predicate, Question, Record
@@ -13,6 +14,10 @@ class KeptValues(unittest.TestCase):
 
     def test_spares_go_around_what_is_named(self):
         self.assertEqual(kept_values(S, Pool((Record(1, (3,)),)), Question(0, (0,))), (0, 1, 2, 3, 4))
+
+    def test_constants_are_kept_used_or_not(self):
+        book = replace(S, constants=(7, 2, 7, 0))
+        self.assertEqual(kept_values(book, Pool((Record(1, (3,)),)), Question(0, (0,))), (0, 1, 2, 3, 4, 5, 7))
 
     def test_no_rule_no_spare(self):
         self.assertEqual(kept_values(Book((Predicate("p", 0),), ()), NOTHING, Question(0, ())), (0,))

@@ -20,7 +20,7 @@ from workbench.asking import DOES_NOT_FIT, FITS, NOT_ANSWERED, REFUSED, Answer, 
 from workbench.book_bytes import encode_book
 from workbench.book_text import parse_book
 from workbench.library import ROOT, Reply
-from workbench.model import EQUAL, NIL, UNEQUAL, Book, Call, Cell, Condition, Pool, Predicate, Question, Rule
+from workbench.model import EQUAL, FIRST_CONSTANT, NIL, UNEQUAL, Book, Call, Cell, Condition, Pool, Predicate, Question, Rule
 from workbench.plain import not_plain
 from workbench.pool_bytes import encode_pool
 from workbench.pool_text import parse_pool
@@ -101,7 +101,7 @@ class Answers(unittest.TestCase):
         self.assertEqual(ask(whole).kind, REFUSED)
         first, second = answer_text(ask(whole)).splitlines()
         self.assertRegex(first, "^refusal 1: the book ends too early: ")
-        self.assertRegex(second, "^  byte 24 of the book: ")
+        self.assertRegex(second, "^  byte 25 of the book: ")
 
     def test_it_takes_no_table(self):
         with mock.patch.object(library, "decide", side_effect=AssertionError):
@@ -288,6 +288,14 @@ class Documented(unittest.TestCase):
             self.assertEqual(self.verdict(self.SEGMENT + handed_on, pool, "queue(1)"), due)
             self.assertEqual(self.verdict(self.SEGMENT + once, pool, "queue(1)", plain=False), due if due == FITS else NOT_ANSWERED)
 
+    def test_rules_that_differ_in_a_code(self):
+        cases = "a != nil * a -> 0x51, n * list(n) => list(a)", "a != nil * a -> 0x54, n * list(n) => list(a)"
+        self.assertRegex(reason(f"list {{ a = nil => list(a) | {cases[0]} | {cases[1]} }}"), r"rules 2 and 3 of list .* for example by list\(1\)$")
+        self.assertIn("`chain(a, type)` in `examples/plain/types.book`", self.TEXT)
+        book = (ROOT / "examples/plain/types.book").read_text()
+        for code, due in (("0x51", FITS), ("0x54", DOES_NOT_FIT), ("nil", DOES_NOT_FIT)):
+            self.assertEqual(self.verdict(book, "10: 0x51, 20\n20: 0x51, nil", f"chain(10, {code})"), due)
+
     def test_rules_that_differ_in_a_size(self):
         self.assertRegex(reason("p { a -> n => p(a) | a -> (n, m) => p(a) }"), r"can both be met, for example by p\(1\)$")
 
@@ -308,9 +316,11 @@ class Documented(unittest.TestCase):
 def plain_book(chance: Random) -> Book:
     """Two predicates, each with a case without records and one or two with a cell, which its first condition keeps apart."""
     predicates = (Predicate("p", 2), Predicate("q", 1))
+    constants = chance.choice(((), (), (3, 90, 3, 0)))
+    fixed = [NIL, *range(FIRST_CONSTANT, FIRST_CONSTANT + len(constants))]
     rules = []
     for head, predicate in enumerate(predicates):
-        first, second = (0, chance.choice((1, NIL)) if head == 0 else NIL), (1, NIL)
+        first, second = (0, chance.choice((1, NIL)) if head == 0 else NIL), (1, chance.choice(fixed))
         same, other = Condition(EQUAL, *first), Condition(UNEQUAL, *first)
         rules.append(Rule(head, tuple("ab"[: predicate.arguments]), (same,)))
         # Two longer cases are told apart by the second argument.
@@ -319,13 +329,13 @@ def plain_book(chance: Random) -> Book:
             bound = chance.randrange(1, 3)
             variables = tuple("abcd"[: predicate.arguments + bound])
             in_fields = [*range(predicate.arguments, len(variables))]
-            terms = [*range(len(variables)), NIL]
+            terms = [*range(len(variables)), *chance.sample(fixed, min(2, len(fixed)))]
             fields = chance.sample(in_fields + chance.choices(terms, k=2 - bound), 2)
             calls = []
             for number in chance.choices((0, 1), k=chance.randrange(3)):
                 calls.append(Call(number, tuple(chance.choices(terms + 2 * in_fields, k=predicates[number].arguments))))
             rules.append(Rule(head, variables, conditions, (Cell(0, tuple(fields)),), tuple(calls)))
-    return Book(predicates, tuple(rules))
+    return Book(predicates, tuple(rules), constants)
 
 
 class BesideTheEngine(unittest.TestCase):
@@ -346,7 +356,7 @@ class BesideTheEngine(unittest.TestCase):
         """The verdicts are the same for books that the workbench takes for plain."""
         chance = Random(11)
         fits: Counter[int] = Counter()
-        for case in range(1500):
+        for case in range(2000):
             book, pool = (plain_book(chance), some_pool(chance)) if case % 3 else (PLAIN, some_chains(chance))
             question = Question(0, tuple(chance.choices([0, *(record.address for record in pool.records)], k=2)))
             self.assertEqual(not_plain(book), "")

@@ -1,6 +1,8 @@
+pub mod GivenValues
 pub mod HeapInBlock
 pub mod InputInBlock
 pub mod ReadyBlocks
+pub mod RuleAs
 pub mod RuleInBlock
 pub mod Scopes
 pub mod TermsInBlock

@@ -4,9 +4,10 @@ use super::HeapBlock;
 use super::PlacedHeap;
 use super::QueryBlock;
 ghost use mathlib.Core.Path.{_≡_};
+ghost use mathlib.Core.List.{_++_};
 ghost use Prim.Native.Nat.{_+_, _≤_, _<_};
 ghost use lib.ListN.{set};
-ghost use Rattle.block.specs.Layout.{recordCount, recordPlace, recordAddress, recordSize, recordField, queryPredicate, queryCount, queryValues};
+ghost use Rattle.block.specs.Layout.{recordCount, recordPlace, recordAddress, recordSize, recordField, queryPredicate, queryCount, constantCount, fixedIn, constantsIn, queryValues};
 
 // A count as an index.
 fn wide(x: u32) -> usize
@@ -55,14 +56,46 @@ pub fn query_predicate(query: &QueryBlock) -> u8
     query[0] as u8
 }
 
+// How many constants the rule set has.
+pub fn constant_count(query: &QueryBlock) -> usize
+    ensures { λ r. ⌜ (r ≡ constantCount (now (query .entry))) × (r < 4294967296) ⌝ }
+{
+    wide(query[2])
+}
+
+// The fixed value of a number: nil of 0, and of one past the constants, so that nobody needs to show that no rule has it.
+pub fn fixed_value(query: &QueryBlock, k: usize) -> u32
+    requires { ⌜ constantCount (now query) ≤ 8 ⌝ }
+    ensures { λ r. ⌜ r ≡ fixedIn (now (query .entry)) k ⌝ }
+{
+    if k == 0 {
+        return 0;
+    }
+    if k <= constant_count(query) {
+        return query[2 + k];
+    }
+    0
+}
+
 // The values of the query.
 pub fn query_values(query: &QueryBlock) -> &[u32]
-    requires { ⌜ queryCount (now query) ≤ 4 ⌝ }
+    requires { ⌜ (constantCount (now query) ≤ 8) × (queryCount (now query) ≤ 4) ⌝ }
     ensures { λ r. ⌜ now r ≡ queryValues (now (query .entry)) ⌝ }
 {
+    let first = 3 + wide(query[2]);
     let count = wide(query[1]);
     let all = &query[..];
-    &all[2..2 + count]
+    &all[first..first + count]
+}
+
+// What book and question give: the constants, and the values of the query.
+pub fn given_values(query: &QueryBlock) -> &[u32]
+    requires { ⌜ (constantCount (now query) ≤ 8) × (queryCount (now query) ≤ 4) ⌝ }
+    ensures { λ r. ⌜ now r ≡ constantsIn (now (query .entry)) ++ queryValues (now (query .entry)) ⌝ }
+{
+    let count = wide(query[2]) + wide(query[1]);
+    let all = &query[..];
+    &all[3..3 + count]
 }
 
 // ---- the heap in positions, entry by entry

@@ -1,10 +1,11 @@
--- The arities stand below place 16: what is written from there on leaves them alone. What a block says of predicate p is what the list of
+-- The arities stand below the rules: what is written from there on leaves them alone. What a block says of predicate p is what the list of
 -- its arities says.
 use mathlib.Core.{Path._≡_, Path.sym, Path._∙_, Logic.inl, List.List}
 use Prim.Native.Nat.{ℕ, _+_, _≤_, _<_}
 use native.Mathlib.Omega.{arith}
 use lib.ListN.{length, getD}
 use Rattle.words.proofs.Tabulate.{tabulate-length, tabulate-at}
+use Rattle.block.specs.Layout.{firstRule}
 use Rattle.reader.specs.Layout.{KeptOutside, Fills}
 use Rattle.book.specs.BookLayout.{Header, aritiesIn, nameLayout}
 use Rattle.reader.specs.declared.Cursor.{Cursor}
@@ -28,14 +29,14 @@ module _ (b b′ : List ℕ) (e : getD b′ 0 0 ≡ getD b 0 0) (same : (i : ℕ
     each = λ p m. let m′ : p < getD b 0 0 = rw e at m in rw (same (8 + p) (omega arith) (omega (arith, h .few))) (h .each p m′);
   }
 
-pub arities-kept : {from to : ℕ} {b b′ : List ℕ} → KeptOutside from to b b′ → 16 ≤ from → getD b 0 0 ≤ 8 → aritiesIn b′ ≡ aritiesIn b
+pub arities-kept : {from to : ℕ} {b b′ : List ℕ} → KeptOutside from to b b′ → firstRule ≤ from → getD b 0 0 ≤ 8 → aritiesIn b′ ≡ aritiesIn b
 arities-kept {b = b} {b′ = b′} k l few = arities-same b b′ (k .same 0 (inl (omega arith))) (λ i l₁ l₂. k .same i (inl (omega arith))) few
 
-pub header-kept : {from to : ℕ} {b b′ : List ℕ} → KeptOutside from to b b′ → 16 ≤ from → Header b → Header b′
+pub header-kept : {from to : ℕ} {b b′ : List ℕ} → KeptOutside from to b b′ → firstRule ≤ from → Header b → Header b′
 header-kept {b = b} {b′ = b′} k l h = header-same b b′ (k .same 0 (inl (omega arith))) (λ i l₁ l₂. k .same i (inl (omega arith))) h
 
 -- the predicate that a name has just been read for, and its arity
-module _ (at : ℕ) {bytes : List ℕ} {c r : Cursor} {b b′ : List ℕ} (header : Header b) (low : 16 ≤ at) (name : Fills (nameLayout (getD b 0 0)) at bytes c b b′ r) where
+module _ (at : ℕ) {bytes : List ℕ} {c r : Cursor} {b b′ : List ℕ} (header : Header b) (low : firstRule ≤ at) (name : Fills (nameLayout (getD b 0 0)) at bytes c b b′ r) where
   pub name-small : getD b′ at 0 < getD b 0 0
   name-small = name .sized (header .some)
 

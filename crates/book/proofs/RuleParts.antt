@@ -7,18 +7,18 @@ use borrow.Author.Tests.{le-leb, lt-leb}
 use lib.{Dec.leb, ListN.getD}
 use Rattle.semantics.specs.{RuleSet.Rule, Reader.Reader, Reader.onward, Reader._>>=_, Reader.byte, Reader.ensure, Reader.times}
 use Rattle.semantics.specs.Formats.{named, pure, atom, call, body}
-use Rattle.block.specs.Layout.{ruleIn, ruleSize}
+use Rattle.block.specs.Layout.{ruleAs, fixedIn, constantsIn, firstRule, ruleSize}
 use Rattle.reader.specs.{Cursor.Yields, Cursor.rangedByte, Layout.Layout, Layout.KeptOutside, Layout.Fills, Layout.many}
 use Rattle.book.specs.BookLayout.{countLayout, nameLayout, pureLayout, atomLayout, callLayout, Header, aritiesIn, Body, ruleLayout}
 use Rattle.reader.specs.declared.Cursor.{Cursor}
 use Rattle.book.proofs.{Heading.arities-length, Heading.arities-kept, Heading.arity-few, Heading.arity-read, Locals.pure-local, Locals.atom-local}
 use Rattle.reader.proofs.{Chain.chain, Chain.done, Chain.become, Chain.alike, Chain.turn, Counting.counted-read, Keep.kept-both, Section.many-local}
 
-module _ (n at : ℕ) {bytes : List ℕ} {c c₁ c₂ c₃ c₄ c₅ : Cursor} {b b₁ b₂ b₃ b₄ b₅ : List ℕ}
+module _ (given : List ℕ) (n at : ℕ) {bytes : List ℕ} {c c₁ c₂ c₃ c₄ c₅ : Cursor} {b b₁ b₂ b₃ b₄ b₅ : List ℕ}
     (count₁ : Fills (countLayout 0 8) (at + 2) bytes c b b₁ c₁)
-    (pures : Fills (many (getD b₁ (at + 2) 0) (pureLayout n)) (at + 8) bytes c₁ b₁ b₂ c₂)
+    (pures : Fills (many (getD b₁ (at + 2) 0) (pureLayout given n)) (at + 8) bytes c₁ b₁ b₂ c₂)
     (count₂ : Fills (countLayout 0 4) (at + 3) bytes c₂ b₂ b₃ c₃)
-    (atoms : Fills (many (getD b₃ (at + 3) 0) (atomLayout n)) (at + 32) bytes c₃ b₃ b₄ c₄)
+    (atoms : Fills (many (getD b₃ (at + 3) 0) (atomLayout given n)) (at + 32) bytes c₃ b₃ b₄ c₄)
     (count₃ : Fills (countLayout 0 3) (at + 4) bytes c₄ b₄ b₅ c₅) where
   -- up to the calls
   pub kept₀₅ : KeptOutside (at + 2) (at + ruleSize) b b₅
@@ -30,8 +30,8 @@ module _ (n at : ℕ) {bytes : List ℕ} {c c₁ c₂ c₃ c₄ c₅ : Cursor} {
       let k₄ = kept-both (at + 2) (at + ruleSize) k₃ (atoms .kept) (omega arith) in
       kept-both (at + 2) (at + ruleSize) k₄ (count₃ .kept) (omega arith)
 
-  module _ {c₆ : Cursor} {b₆ : List ℕ} (header : Header b) (low : 16 ≤ at)
-      (calls : Fills (many (getD b₅ (at + 4) 0) (callLayout (aritiesIn b₅) n)) (at + 56) bytes c₅ b₅ b₆ c₆) where
+  module _ {c₆ : Cursor} {b₆ : List ℕ} (header : Header b) (low : firstRule ≤ at)
+      (calls : Fills (many (getD b₅ (at + 4) 0) (callLayout (aritiesIn b₅) given n)) (at + 56) bytes c₅ b₅ b₆ c₆) where
     kept₀₆ : KeptOutside (at + 2) (at + ruleSize) b b₆
     kept₀₆ = kept-both (at + 2) (at + ruleSize) kept₀₅ (calls .kept) (omega (arith, count₃ .sized .high))
 
@@ -50,38 +50,38 @@ module _ (n at : ℕ) {bytes : List ℕ} {c c₁ c₂ c₃ c₄ c₅ : Cursor} {
     abbrev Stays : {A : Type 0} → Layout A → ℕ → List ℕ → List ℕ → Type 0
     Stays layout from x y = (layout .held y from ≡ layout .held x from) × layout .Sized y from
 
-    atoms-stay : Stays (many (getD b₃ (at + 3) 0) (atomLayout n)) (at + 32) b₄ b₆
+    atoms-stay : Stays (many (getD b₃ (at + 3) 0) (atomLayout given n)) (at + 32) b₄ b₆
     atoms-stay =
         let few = count₂ .sized .high in
-        many-local _ (atomLayout n) (atom-local n) .same b₄ b₆ (at + 32) (λ i l. absurd (omega arith))
+        many-local _ (atomLayout given n) (atom-local given n) .same b₄ b₆ (at + 32) (λ i l. absurd (omega arith))
         (λ i l₁ l₂. calls .kept .same i (inl (omega arith)) ∙ count₃ .kept .same i (inr (omega arith))) (atoms .sized)
 
-    pures-stay : Stays (many (getD b₁ (at + 2) 0) (pureLayout n)) (at + 8) b₂ b₆
+    pures-stay : Stays (many (getD b₁ (at + 2) 0) (pureLayout given n)) (at + 8) b₂ b₆
     pures-stay =
         let few = count₁ .sized .high in
-        many-local _ (pureLayout n) (pure-local n) .same b₂ b₆ (at + 8) (λ i l. absurd (omega arith))
+        many-local _ (pureLayout given n) (pure-local given n) .same b₂ b₆ (at + 8) (λ i l. absurd (omega arith))
         (λ i l₁ l₂. calls .kept .same i (inl (omega arith)) ∙ count₃ .kept .same i (inr (omega arith)) ∙ atoms .kept .same i (inl (omega arith))
         ∙ count₂ .kept .same i (inr (omega arith))) (pures .sized)
 
     rule-stays : _≡_ {A = Rule} (record {
       head = getD b at 0;
       bound = getD b (at + 1) 0;
-      pures = many (getD b₁ (at + 2) 0) (pureLayout n) .held b₂ (at + 8);
-      points-to = many (getD b₃ (at + 3) 0) (atomLayout n) .held b₄ (at + 32);
-      calls = many (getD b₅ (at + 4) 0) (callLayout (aritiesIn b₅) n) .held b₆ (at + 56);
-    }) (ruleIn b₆ at)
+      pures = many (getD b₁ (at + 2) 0) (pureLayout given n) .held b₂ (at + 8);
+      points-to = many (getD b₃ (at + 3) 0) (atomLayout given n) .held b₄ (at + 32);
+      calls = many (getD b₅ (at + 4) 0) (callLayout (aritiesIn b₅) given n) .held b₆ (at + 56);
+    }) (ruleAs (fixedIn given) b₆ at)
     rule-stays = rw (m₁, m₂, m₃, kept₀₆ .same at (inl (omega arith)), kept₀₆ .same (at + 1) (inl (omega arith)), pures-stay .0, atoms-stay .0)
 
-    called : Yields (times (getD b₅ (at + 4) 0) (call (aritiesIn b) n)) bytes c₅ c₆ (many (getD b₅ (at + 4) 0) (callLayout (aritiesIn b₅) n) .held b₆ (at + 56))
-    called = turn (ap (λ (arities : List ℕ). times (getD b₅ (at + 4) 0) (call arities n)) (arities-kept kept₀₅ (omega arith) (header .few))) (calls .reads)
+    called : Yields (times (getD b₅ (at + 4) 0) (call (aritiesIn b) (constantsIn given) n)) bytes c₅ c₆ (many (getD b₅ (at + 4) 0) (callLayout (aritiesIn b₅) given n) .held b₆ (at + 56))
+    called = turn (ap (λ (arities : List ℕ). times (getD b₅ (at + 4) 0) (call arities (constantsIn given) n)) (arities-kept kept₀₅ (omega arith) (header .few))) (calls .reads)
 
-    pub body-fills : Body at n bytes c b b₆ c₆
+    pub body-fills : Body at n given bytes c b b₆ c₆
     body-fills = record {
       reads =
           become rule-stays
-          (chain _ (counted-read 1 2 8 (pure n) (count₁ .reads) (pures .reads))
-          (chain _ (counted-read 1 2 4 (atom n) (count₂ .reads) (atoms .reads))
-          (chain _ (counted-read 1 2 3 (call (aritiesIn b) n) (count₃ .reads) called) (done bytes c₆ _))));
+          (chain _ (counted-read 1 2 8 (pure (constantsIn given) n) (count₁ .reads) (pures .reads))
+          (chain _ (counted-read 1 2 4 (atom (constantsIn given) n) (count₂ .reads) (atoms .reads))
+          (chain _ (counted-read 1 2 3 (call (aritiesIn b) (constantsIn given) n) (count₃ .reads) called) (done bytes c₆ _))));
       sized = record {
         pures = rw m₁ (count₁ .sized .high);
         atoms = rw m₂ (count₂ .sized .high);
@@ -114,10 +114,10 @@ bound-read {A} arity next few h k = alike _ same (chain (λ b. next b (arity + b
     same [] = refl
     same (b ∷ bytes) = rw (le-leb 0 b (omega arith), same-test arity b few) (tested (leb b (8 - arity)) b bytes)
 
-pub rule-fills : (at : ℕ) {bytes : List ℕ} {c c₁ c₂ c₃ : Cursor} {b b₁ b₂ b₃ : List ℕ} → Header b → 16 ≤ at → Fills (nameLayout (getD b 0 0)) at bytes c b b₁ c₁
+pub rule-fills : (given : List ℕ) (at : ℕ) {bytes : List ℕ} {c c₁ c₂ c₃ : Cursor} {b b₁ b₂ b₃ : List ℕ} → Header b → firstRule ≤ at → Fills (nameLayout (getD b 0 0)) at bytes c b b₁ c₁
     → Fills (countLayout 0 (8 - getD b₁ (8 + getD b₁ at 0) 0)) (at + 1) bytes c₁ b₁ b₂ c₂
-    → Body at (getD b₁ (8 + getD b₁ at 0) 0 + getD b₂ (at + 1) 0) bytes c₂ b₂ b₃ c₃ → Fills (ruleLayout (aritiesIn b)) at bytes c b b₃ c₃
-rule-fills at {bytes} {c₂ = c₂} {c₃ = c₃} {b} {b₁} {b₂} {b₃} header low name bound rest =
+    → Body at (getD b₁ (8 + getD b₁ at 0) 0 + getD b₂ (at + 1) 0) given bytes c₂ b₂ b₃ c₃ → Fills (ruleLayout (aritiesIn b) given) at bytes c b b₃ c₃
+rule-fills given at {bytes} {c₂ = c₂} {c₃ = c₃} {b} {b₁} {b₂} {b₃} header low name bound rest =
     let few : getD b₁ (8 + getD b₁ at 0) 0 ≤ 4 = arity-few at header low name in
     let k = kept-both at (at + ruleSize) (name .kept) (bound .kept) (omega arith) in
     let e : aritiesIn b₂ ≡ aritiesIn b = arities-kept k low (header .few) in
@@ -126,7 +126,7 @@ rule-fills at {bytes} {c₂ = c₂} {c₃ = c₃} {b} {b₁} {b₂} {b₃} heade
     record {
       reads =
           chain _ (turn (ap named (sym (arities-length b))) (name .reads))
-          (bound-read (getD (aritiesIn b) (getD b₁ at 0) 0) (body (aritiesIn b) (getD b₁ at 0)) (rw (← n) (omega arith))
+          (bound-read (getD (aritiesIn b) (getD b₁ at 0) 0) (body (aritiesIn b) (constantsIn given) (getD b₁ at 0)) (rw (← n) (omega arith))
           (turn (ap (λ (m : ℕ). rangedByte 1 2 0 (8 - m)) n) (bound .reads))
           (rw (e, h, n) at (rest .reads)));
       sized = rest .sized;

@@ -1,15 +1,15 @@
--- The whole rule set: the arities and the rules, each after its count.
+-- The whole rule set: the arities, the constants and the rules, each after its count.
 use mathlib.Core.{Path._≡_, Path.refl, Path.sym, Path.ap, Path.fun-ext, Path._∙_, Logic.inl, Logic.inr, List.List, List.[], List._∷_}
 use Prim.Native.Nat.{ℕ, _*_, _<_}
 use native.Mathlib.Omega.{arith}
 use borrow.Author.Tests.{le-leb}
-use lib.{ListN.getD, Dec.leb}
-use Rattle.semantics.specs.{Reader.Reader, Reader.onward, Reader.ensure, Reader.times, Formats.arguments, Formats.predicates, Formats.rule}
+use lib.{ListN.length, ListN.getD, ListN.set, ListN.length-set, Seq.getD-set-same, Dec.leb}
+use Rattle.semantics.specs.{Reader.Reader, Reader.onward, Reader.ensure, Reader.times, Formats.value, Formats.arguments, Formats.predicates, Formats.rule}
 use Rattle.words.specs.Entries.{entries}
-use Rattle.block.specs.Layout.{ruleSetIn}
-use Rattle.reader.specs.{Cursor.Yields, Cursor.rangedByte, Layout.Fills, Layout.many}
-use Rattle.book.specs.BookLayout.{countLayout, ruleLayout, Header, aritiesIn, RuleSetFills}
-use Rattle.reader.specs.declared.Cursor.{Cursor}
+use Rattle.block.specs.Layout.{ruleSetAs, constantCount, constantsIn, firstRule, querySize}
+use Rattle.reader.specs.{Cursor.Yields, Cursor.rangedByte, Cursor.Ranged, Layout.valueLayout, Layout.Fills, Layout.many}
+use Rattle.book.specs.BookLayout.{countLayout, ruleLayout, Header, aritiesIn, ConstantsFill, RuleSetFills}
+use Rattle.reader.specs.declared.{Cursor.Cursor, Entry.Entry}
 use Rattle.book.proofs.Heading.{arities-same, header-same, arities-kept, header-kept}
 use Rattle.reader.proofs.{Chain.assoc, Chain.chain, Chain.done, Chain.become, Chain.alike, Chain.turn, Counting.counted-read, Section.ones}
 
@@ -30,10 +30,22 @@ predicates-read h k = alike predicates same (chain (λ n. times n arguments) h k
     same [] = refl
     same (b ∷ bytes) = assoc (ensure (leb 1 b) 2 b bytes) (λ l. ensure (leb l 8) 2 l) (λ n. times n arguments)
 
-module _ {bytes : List ℕ} {c c₁ c₂ c₃ : Cursor} {b b₁ b₂ b₃ : List ℕ}
+-- the count of constants, and as many values
+pub constants-fill : {bytes : List ℕ} {c r : Cursor} {count : Entry} {q q₁ q′ : List ℕ} {k : ℕ} → length q ≡ querySize → Ranged 1 2 0 8 bytes c count → k ≡ count .value
+    → q₁ ≡ set q 2 k → Fills (many k (valueLayout 1)) 3 bytes (count .cursor) q₁ q′ r → ConstantsFill bytes c q q′ r
+constants-fill {q = q} {q₁} {q′} {k} long counted e is values =
+    let n : constantCount q′ ≡ k = values .kept .same 2 (inl (omega arith)) ∙ ap (λ (l : List ℕ). getD l 2 0) is ∙ getD-set-same q 2 k 0 (omega arith) in
+    record {
+      reads = rw (n, ← ones q′ 3 k) (counted-read 1 2 8 (value 1) (counted .reads) (turn (ap (λ (m : ℕ). times m (value 1)) e) (values .reads)));
+      constants-few = omega (arith, n, e, counted .within .high);
+      long = values .kept .long ∙ ap (λ (l : List ℕ). length l) is ∙ simp length-set;
+    }
+
+module _ {bytes : List ℕ} {c c₁ c₂ cₖ c₃ : Cursor} {b b₁ b₂ b₃ q q′ : List ℕ}
     (count₁ : Fills (countLayout 1 8) 0 bytes c b b₁ c₁)
     (arities : Fills (many (getD b₁ 0 0) (countLayout 0 4)) 8 bytes c₁ b₁ b₂ c₂)
-    (count₂ : Fills (countLayout 0 16) 1 bytes c₂ b₂ b₃ c₃) where
+    (fixed : ConstantsFill bytes c₂ q q′ cₖ)
+    (count₂ : Fills (countLayout 0 16) 1 bytes cₖ b₂ b₃ c₃) where
   n₂ : getD b₂ 0 0 ≡ getD b₁ 0 0
   n₂ = arities .kept .same 0 (inl (omega arith))
 
@@ -56,15 +68,19 @@ module _ {bytes : List ℕ} {c c₁ c₂ c₃ : Cursor} {b b₁ b₂ b₃ : List
       turn (ap (λ (read : Reader ℕ). times (getD b₁ 0 0) read) is-arguments)
       (become (ones b₂ 8 (getD b₁ 0 0) ∙ ap (λ (n : ℕ). entries b₂ 8 n) (sym n₂)) (arities .reads))
 
-  pub rule-set-fills : {c₄ : Cursor} {b₄ : List ℕ} → Fills (many (getD b₃ 1 0) (ruleLayout (aritiesIn b₃))) 16 bytes c₃ b₃ b₄ c₄
-      → RuleSetFills bytes c b b₄ c₄
-  unfolding ruleSetIn
-  rule-set-fills {c₄} {b₄} rules = record {
+  pub rule-set-fills : {c₄ : Cursor} {b₄ : List ℕ} → length q ≡ querySize → Fills (many (getD b₃ 1 0) (ruleLayout (aritiesIn b₃) q′)) firstRule bytes c₃ b₃ b₄ c₄
+      → RuleSetFills bytes c b b₄ q′ c₄
+  unfolding ruleSetAs
+  rule-set-fills {c₄} {b₄} query-long rules = record {
     reads =
         rw (arities-kept (rules .kept) (omega arith) (header₃ .few) ∙ arities₃, rules .kept .same 1 (inl (omega arith)))
         (chain _ (predicates-read (count₁ .reads) arities-read)
-        (chain _ (counted-read 1 2 16 (rule (aritiesIn b₂)) (count₂ .reads) (turn (ap (λ (a : List ℕ). times (getD b₃ 1 0) (rule a)) arities₃) (rules .reads)))
-        (done bytes c₄ _)));
+        (chain _ (fixed .reads)
+        (chain _ (counted-read 1 2 16 (rule (aritiesIn b₂) (constantsIn q′)) (count₂ .reads)
+        (turn (ap (λ (a : List ℕ). times (getD b₃ 1 0) (rule a (constantsIn q′))) arities₃) (rules .reads)))
+        (done bytes c₄ _))));
     header = header-kept (rules .kept) (omega arith) header₃;
+    constants-few = fixed .constants-few;
+    query-long = fixed .long ∙ query-long;
     long = rules .kept .long ∙ count₂ .kept .long ∙ arities .kept .long ∙ count₁ .kept .long;
   }

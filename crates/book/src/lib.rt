@@ -1,4 +1,5 @@
-// The book, into a block of 1,168 bytes: places as the layout of the block has them. `n` is the number of a rule's variables.
+// The book, into the block of a rule set, and its constants into that of the query: places as the layout of the blocks has them. `n` is the
+// number of a rule's variables, and `given` the query's block, where the constants are.
 use block::ARGUMENTS;
 use block::ARITIES;
 use block::ATOM_SIZE;
@@ -6,19 +7,23 @@ use block::ATOMS;
 use block::BOUND;
 use block::CALL_SIZE;
 use block::CALLS;
+use block::CONSTANTS;
 use block::FIELDS;
 use block::FIRST_ATOM;
 use block::FIRST_CALL;
+use block::FIRST_GIVEN;
 use block::FIRST_PURE;
 use block::FIRST_RULE;
 use block::LEFT;
 use block::PREDICATES;
 use block::PURE_SIZE;
 use block::PURES;
+use block::QueryBlock;
 use block::RIGHT;
 use block::RULE_SIZE;
 use block::RULES;
 use block::SIZE;
+use block::heap::constant_count;
 use reader::Cursor;
 use reader::Ladder;
 use reader::bytes::below;
@@ -26,12 +31,14 @@ use reader::bytes::byte;
 use reader::bytes::finish;
 use reader::bytes::ranged;
 use reader::bytes::stop;
-ghost use Rattle.block.specs.Layout.{atomRoom, callSize, firstArity, firstRule, pureSize, ruleSetSize, ruleSize};
+use reader::fields::values;
+use reader::fields::wide;
+ghost use Rattle.block.specs.Layout.{atomRoom, callSize, firstArity, constantCount, firstRule, pureSize, querySize, ruleSetSize, ruleSize};
 ghost use mathlib.Core.Path.{_≡_};
 ghost use Prim.Native.Nat.{_+_, _*_, _≤_, _<_};
 ghost use lib.ListN.{length};
 ghost use Rattle.reader.specs.Layout.{Fills, many};
-ghost use Rattle.book.specs.BookLayout.{countLayout, nameLayout, termLayout, pureLayout, atomLayout, aritiesIn, Header, callLayout, Body, ruleLayout, RuleSetFills, RulesRead};
+ghost use Rattle.book.specs.BookLayout.{countLayout, nameLayout, termLayout, pureLayout, atomLayout, aritiesIn, Header, callLayout, Body, ruleLayout, ConstantsFill, RuleSetFills, RulesRead};
 
 // The refusals of a book: it ends too soon, a count is out of range, a byte names nothing, bytes follow.
 const ENDS: u8 = 1;
@@ -46,6 +53,8 @@ const MORE: u8 = 4;
 const MOST_PREDICATES: u8 = 8;
 
 const MOST_ARGUMENTS: u8 = 4;
+
+const MOST_CONSTANTS: u8 = 8;
 
 const MOST_RULES: u8 = 16;
 
@@ -62,9 +71,12 @@ const MOST_CALLS: u8 = 3;
 // The kinds of a pure condition: equal and unequal.
 const KINDS: u8 = 2;
 
-// Nil as a term, in the book and in the block.
-const NIL: u8 = 255;
+// Nil as a term, and the first constant.
+const NIL_TERM: u8 = 255;
 
+const CONSTANT: u8 = 128;
+
+// In the block, the first fixed value, which is nil; the constants follow.
 const NIL_HELD: u8 = 128;
 
 // A count, from `least` to `most`.
@@ -89,138 +101,177 @@ fn named(s: &[u8], c: Cursor, block: &mut [u8], at: usize, n: u8) -> Cursor
     next
 }
 
-// A term of a rule with `n` variables. In the block 128 stands for nil.
-fn term(s: &[u8], c: Cursor, block: &mut [u8], at: usize, n: u8) -> Cursor
-    requires { ⌜ (n ≤ 8) × (at < length (now block)) ⌝ }
-    ensures { λ r. ⌜ Fills (termLayout n) at (now (s .entry)) c (now (block .entry)) (now (block .exit)) r ⌝ }
+// A term of a rule with `n` variables. In the block 128 stands for nil, and the constants follow.
+fn term(s: &[u8], c: Cursor, block: &mut [u8], at: usize, n: u8, given: &QueryBlock) -> Cursor
+    requires { ⌜ (n ≤ 8) × (at < length (now block)) × (constantCount (now given) ≤ 8) ⌝ }
+    ensures { λ r. ⌜ Fills (termLayout (now (given .entry)) n) at (now (s .entry)) c (now (block .entry)) (now (block .exit)) r ⌝ }
 {
     let b = byte(s, c, ENDS);
     let v = b.value;
     let next = b.cursor;
-    if v == NIL {
+    if v == NIL_TERM {
         block[at] = NIL_HELD;
         return next;
     }
-    if v < n {
-        block[at] = v;
+    if v < CONSTANT {
+        if v < n {
+            block[at] = v;
+            return next;
+        }
+        return stop(next, NAME);
+    }
+    if ((v - CONSTANT) as usize) < constant_count(given) {
+        block[at] = v + 1;
         return next;
     }
     stop(next, NAME)
 }
 
 // `count` terms.
-fn terms(s: &[u8], c: Cursor, block: &mut [u8], from: usize, count: u8, n: u8) -> Cursor
-    requires { ⌜ (n ≤ 8) × (from + count ≤ length (now block)) ⌝ }
-    ensures { λ r. ⌜ Fills (many count (termLayout n)) from (now (s .entry)) c (now (block .entry)) (now (block .exit)) r ⌝ }
+fn terms(
+    s: &[u8],
+    c: Cursor,
+    block: &mut [u8],
+    from: usize,
+    count: u8,
+    n: u8,
+    given: &QueryBlock,
+) -> Cursor
+    requires { ⌜ (n ≤ 8) × (from + count ≤ length (now block)) × (constantCount (now given) ≤ 8) ⌝ }
+    ensures { λ r. ⌜ Fills (many count (termLayout (now (given .entry)) n)) from (now (s .entry)) c (now (block .entry)) (now (block .exit)) r ⌝ }
 {
     let most = count as usize;
     let mut next = c;
     let mut k: usize = 0;
     while k < most {
-        next = term(s, next, block, from + k, n);
+        next = term(s, next, block, from + k, n, given);
         k += 1;
     }
     next
 }
 
 // A pure condition: its kind and two terms.
-fn pure(s: &[u8], c: Cursor, block: &mut [u8], at: usize, n: u8) -> Cursor
-    requires { ⌜ (n ≤ 8) × (at + pureSize ≤ length (now block)) ⌝ }
-    ensures { λ r. ⌜ Fills (pureLayout n) at (now (s .entry)) c (now (block .entry)) (now (block .exit)) r ⌝ }
+fn pure(s: &[u8], c: Cursor, block: &mut [u8], at: usize, n: u8, given: &QueryBlock) -> Cursor
+    requires { ⌜ (n ≤ 8) × (at + pureSize ≤ length (now block)) × (constantCount (now given) ≤ 8) ⌝ }
+    ensures { λ r. ⌜ Fills (pureLayout (now (given .entry)) n) at (now (s .entry)) c (now (block .entry)) (now (block .exit)) r ⌝ }
 {
     let left = named(s, c, block, at, KINDS);
-    let right = term(s, left, block, at + LEFT, n);
-    term(s, right, block, at + RIGHT, n)
+    let right = term(s, left, block, at + LEFT, n, given);
+    term(s, right, block, at + RIGHT, n, given)
 }
 
 // `count` pure conditions.
-fn pures(s: &[u8], c: Cursor, block: &mut [u8], from: usize, count: u8, n: u8) -> Cursor
-    requires { ⌜ (n ≤ 8) × (from + pureSize * count ≤ length (now block)) ⌝ }
-    ensures { λ r. ⌜ Fills (many count (pureLayout n)) from (now (s .entry)) c (now (block .entry)) (now (block .exit)) r ⌝ }
+fn pures(
+    s: &[u8],
+    c: Cursor,
+    block: &mut [u8],
+    from: usize,
+    count: u8,
+    n: u8,
+    given: &QueryBlock,
+) -> Cursor
+    requires { ⌜ (n ≤ 8) × (from + pureSize * count ≤ length (now block)) × (constantCount (now given) ≤ 8) ⌝ }
+    ensures { λ r. ⌜ Fills (many count (pureLayout (now (given .entry)) n)) from (now (s .entry)) c (now (block .entry)) (now (block .exit)) r ⌝ }
 {
     let most = count as usize;
     let mut next = c;
     let mut k: usize = 0;
     while k < most {
-        next = pure(s, next, block, from + PURE_SIZE * k, n);
+        next = pure(s, next, block, from + PURE_SIZE * k, n, given);
         k += 1;
     }
     next
 }
 
 // A points-to atom: its address, a variable, and 0 to 4 fields.
-fn atom(s: &[u8], c: Cursor, block: &mut [u8], at: usize, n: u8) -> Cursor
-    requires { ⌜ (n ≤ 8) × (at + atomRoom ≤ length (now block)) ⌝ }
-    ensures { λ r. ⌜ Fills (atomLayout n) at (now (s .entry)) c (now (block .entry)) (now (block .exit)) r ⌝ }
+fn atom(s: &[u8], c: Cursor, block: &mut [u8], at: usize, n: u8, given: &QueryBlock) -> Cursor
+    requires { ⌜ (n ≤ 8) × (at + atomRoom ≤ length (now block)) × (constantCount (now given) ≤ 8) ⌝ }
+    ensures { λ r. ⌜ Fills (atomLayout (now (given .entry)) n) at (now (s .entry)) c (now (block .entry)) (now (block .exit)) r ⌝ }
 {
     let number = named(s, c, block, at, n);
     let fields = count(s, number, block, at + SIZE, 0, MOST_FIELDS);
     let most = block[at + SIZE];
-    terms(s, fields, block, at + FIELDS, most, n)
+    terms(s, fields, block, at + FIELDS, most, n, given)
 }
 
 // `count` points-to atoms.
-fn atoms(s: &[u8], c: Cursor, block: &mut [u8], from: usize, count: u8, n: u8) -> Cursor
-    requires { ⌜ (n ≤ 8) × (from + atomRoom * count ≤ length (now block)) ⌝ }
-    ensures { λ r. ⌜ Fills (many count (atomLayout n)) from (now (s .entry)) c (now (block .entry)) (now (block .exit)) r ⌝ }
+fn atoms(
+    s: &[u8],
+    c: Cursor,
+    block: &mut [u8],
+    from: usize,
+    count: u8,
+    n: u8,
+    given: &QueryBlock,
+) -> Cursor
+    requires { ⌜ (n ≤ 8) × (from + atomRoom * count ≤ length (now block)) × (constantCount (now given) ≤ 8) ⌝ }
+    ensures { λ r. ⌜ Fills (many count (atomLayout (now (given .entry)) n)) from (now (s .entry)) c (now (block .entry)) (now (block .exit)) r ⌝ }
 {
     let most = count as usize;
     let mut next = c;
     let mut k: usize = 0;
     while k < most {
-        next = atom(s, next, block, from + ATOM_SIZE * k, n);
+        next = atom(s, next, block, from + ATOM_SIZE * k, n, given);
         k += 1;
     }
     next
 }
 
 // A call: a predicate, and a term for each of its arguments.
-fn call(s: &[u8], c: Cursor, block: &mut [u8], at: usize, n: u8) -> Cursor
-    requires { ⌜ (n ≤ 8) × Header (now block) × (firstRule ≤ at) × (at + callSize ≤ length (now block)) ⌝ }
-    ensures { λ r. ⌜ Fills (callLayout (aritiesIn (now (block .entry))) n) at (now (s .entry)) c (now (block .entry)) (now (block .exit)) r ⌝ }
+fn call(s: &[u8], c: Cursor, block: &mut [u8], at: usize, n: u8, given: &QueryBlock) -> Cursor
+    requires { ⌜ (n ≤ 8) × Header (now block) × (firstRule ≤ at) × (at + callSize ≤ length (now block)) × (constantCount (now given) ≤ 8) ⌝ }
+    ensures { λ r. ⌜ Fills (callLayout (aritiesIn (now (block .entry))) (now (given .entry)) n) at (now (s .entry)) c (now (block .entry)) (now (block .exit)) r ⌝ }
 {
     let predicates = block[PREDICATES];
     let arguments = named(s, c, block, at, predicates);
     let predicate = block[at] as usize;
     let arity = block[ARITIES + predicate];
-    terms(s, arguments, block, at + ARGUMENTS, arity, n)
+    terms(s, arguments, block, at + ARGUMENTS, arity, n, given)
 }
 
 // `count` calls.
-fn calls(s: &[u8], c: Cursor, block: &mut [u8], from: usize, count: u8, n: u8) -> Cursor
-    requires { ⌜ (n ≤ 8) × Header (now block) × (firstRule ≤ from) × (from + callSize * count ≤ length (now block)) ⌝ }
-    ensures { λ r. ⌜ Fills (many count (callLayout (aritiesIn (now (block .entry))) n)) from (now (s .entry)) c (now (block .entry)) (now (block .exit)) r ⌝ }
+fn calls(
+    s: &[u8],
+    c: Cursor,
+    block: &mut [u8],
+    from: usize,
+    count: u8,
+    n: u8,
+    given: &QueryBlock,
+) -> Cursor
+    requires { ⌜ (n ≤ 8) × Header (now block) × (firstRule ≤ from) × (from + callSize * count ≤ length (now block)) × (constantCount (now given) ≤ 8) ⌝ }
+    ensures { λ r. ⌜ Fills (many count (callLayout (aritiesIn (now (block .entry))) (now (given .entry)) n)) from (now (s .entry)) c (now (block .entry)) (now (block .exit)) r ⌝ }
 {
     let most = count as usize;
     let mut next = c;
     let mut k: usize = 0;
     while k < most {
-        next = call(s, next, block, from + CALL_SIZE * k, n);
+        next = call(s, next, block, from + CALL_SIZE * k, n, given);
         k += 1;
     }
     next
 }
 
 // The rest of a rule over `n` variables: its pure conditions, its points-to atoms and its calls.
-fn body(s: &[u8], c: Cursor, block: &mut [u8], at: usize, n: u8) -> Cursor
-    requires { ⌜ (n ≤ 8) × Header (now block) × (firstRule ≤ at) × (at + ruleSize ≤ length (now block)) ⌝ }
-    ensures { λ r. ⌜ Body at n (now (s .entry)) c (now (block .entry)) (now (block .exit)) r ⌝ }
+fn body(s: &[u8], c: Cursor, block: &mut [u8], at: usize, n: u8, given: &QueryBlock) -> Cursor
+    requires { ⌜ (n ≤ 8) × Header (now block) × (firstRule ≤ at) × (at + ruleSize ≤ length (now block)) × (constantCount (now given) ≤ 8) ⌝ }
+    ensures { λ r. ⌜ Body at n (now (given .entry)) (now (s .entry)) c (now (block .entry)) (now (block .exit)) r ⌝ }
 {
     let c = count(s, c, block, at + PURES, 0, MOST_PURES);
     let k = block[at + PURES];
-    let c = pures(s, c, block, at + FIRST_PURE, k, n);
+    let c = pures(s, c, block, at + FIRST_PURE, k, n, given);
     let c = count(s, c, block, at + ATOMS, 0, MOST_ATOMS);
     let k = block[at + ATOMS];
-    let c = atoms(s, c, block, at + FIRST_ATOM, k, n);
+    let c = atoms(s, c, block, at + FIRST_ATOM, k, n, given);
     let c = count(s, c, block, at + CALLS, 0, MOST_CALLS);
     let k = block[at + CALLS];
-    calls(s, c, block, at + FIRST_CALL, k, n)
+    calls(s, c, block, at + FIRST_CALL, k, n, given)
 }
 
 // A rule: head, number of bound variables, and body. Head and bound variables are at most 8 together.
-fn rule(s: &[u8], c: Cursor, block: &mut [u8], at: usize) -> Cursor
-    requires { ⌜ Header (now block) × (firstRule ≤ at) × (at + ruleSize ≤ length (now block)) ⌝ }
-    ensures { λ r. ⌜ Fills (ruleLayout (aritiesIn (now (block .entry)))) at (now (s .entry)) c (now (block .entry)) (now (block .exit)) r ⌝ }
+fn rule(s: &[u8], c: Cursor, block: &mut [u8], at: usize, given: &QueryBlock) -> Cursor
+    requires { ⌜ Header (now block) × (firstRule ≤ at) × (at + ruleSize ≤ length (now block)) × (constantCount (now given) ≤ 8) ⌝ }
+    ensures { λ r. ⌜ Fills (ruleLayout (aritiesIn (now (block .entry))) (now (given .entry))) at (now (s .entry)) c (now (block .entry)) (now (block .exit)) r ⌝ }
 {
     let predicates = block[PREDICATES];
     let c = named(s, c, block, at, predicates);
@@ -228,19 +279,26 @@ fn rule(s: &[u8], c: Cursor, block: &mut [u8], at: usize) -> Cursor
     let arity = block[ARITIES + head];
     let c = count(s, c, block, at + BOUND, 0, MOST_VARIABLES - arity);
     let bound = block[at + BOUND];
-    body(s, c, block, at, arity + bound)
+    body(s, c, block, at, arity + bound, given)
 }
 
 // `count` rules.
-fn rules(s: &[u8], c: Cursor, block: &mut [u8], from: usize, count: u8) -> Cursor
-    requires { ⌜ Header (now block) × (firstRule ≤ from) × (from + ruleSize * count ≤ length (now block)) ⌝ }
-    ensures { λ r. ⌜ Fills (many count (ruleLayout (aritiesIn (now (block .entry))))) from (now (s .entry)) c (now (block .entry)) (now (block .exit)) r ⌝ }
+fn rules(
+    s: &[u8],
+    c: Cursor,
+    block: &mut [u8],
+    from: usize,
+    count: u8,
+    given: &QueryBlock,
+) -> Cursor
+    requires { ⌜ Header (now block) × (firstRule ≤ from) × (from + ruleSize * count ≤ length (now block)) × (constantCount (now given) ≤ 8) ⌝ }
+    ensures { λ r. ⌜ Fills (many count (ruleLayout (aritiesIn (now (block .entry))) (now (given .entry)))) from (now (s .entry)) c (now (block .entry)) (now (block .exit)) r ⌝ }
 {
     let most = count as usize;
     let mut next = c;
     let mut k: usize = 0;
     while k < most {
-        next = rule(s, next, block, from + RULE_SIZE * k);
+        next = rule(s, next, block, from + RULE_SIZE * k, given);
         k += 1;
     }
     next
@@ -261,24 +319,37 @@ fn arities(s: &[u8], c: Cursor, block: &mut [u8], predicates: u8) -> Cursor
     next
 }
 
-// The whole rule set: the predicates' numbers of arguments, and the rules.
-fn rule_set(s: &[u8], c: Cursor, block: &mut [u8]) -> Cursor
+// The constants, each of four bytes.
+fn constants(s: &[u8], c: Cursor, query: &mut [u32]) -> Cursor
+    requires { ⌜ length (now query) ≡ querySize ⌝ }
+    ensures { λ r. ⌜ ConstantsFill (now (s .entry)) c (now (query .entry)) (now (query .exit)) r ⌝ }
+{
+    let e = ranged(s, c, ENDS, RANGE, 0, MOST_CONSTANTS);
+    let k = wide(e.value);
+    let next = e.cursor;
+    query[CONSTANTS] = k;
+    values(s, next, query, FIRST_GIVEN, k, ENDS)
+}
+
+// The whole rule set: the predicates' numbers of arguments, the constants, and the rules.
+fn rule_set(s: &[u8], c: Cursor, block: &mut [u8], query: &mut QueryBlock) -> Cursor
     requires { ⌜ length (now block) ≡ ruleSetSize ⌝ }
-    ensures { λ r. ⌜ RuleSetFills (now (s .entry)) c (now (block .entry)) (now (block .exit)) r ⌝ }
+    ensures { λ r. ⌜ RuleSetFills (now (s .entry)) c (now (block .entry)) (now (block .exit)) (now (query .exit)) r ⌝ }
 {
     let c = count(s, c, block, PREDICATES, 1, MOST_PREDICATES);
     let k = block[PREDICATES];
     let c = arities(s, c, block, k);
+    let c = constants(s, c, query);
     let c = count(s, c, block, RULES, 0, MOST_RULES);
     let k = block[RULES];
-    rules(s, c, block, FIRST_RULE, k)
+    rules(s, c, block, FIRST_RULE, k, query)
 }
 
-// The book, into a block of 1,168 bytes.
-pub fn read_rules(book: &[u8], block: &mut [u8]) -> Ladder
+// The book, into the block of a rule set, and its constants into that of the query.
+pub fn read_rules(book: &[u8], block: &mut [u8], query: &mut QueryBlock) -> Ladder
     requires { ⌜ length (now block) ≡ ruleSetSize ⌝ }
-    ensures { λ r. ⌜ RulesRead (now (book .entry)) (now (block .entry)) (now (block .exit)) r ⌝ }
+    ensures { λ r. ⌜ RulesRead (now (book .entry)) (now (block .entry)) (now (block .exit)) (now (query .exit)) r ⌝ }
 {
-    let c = rule_set(book, Cursor::At(0), block);
+    let c = rule_set(book, Cursor::At(0), block, query);
     finish(book, c, MORE)
 }

@@ -1,4 +1,5 @@
 pub mod Insertion
 pub mod Values
+pub mod Counts
 pub mod Among
 pub mod Spares

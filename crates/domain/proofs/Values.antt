@@ -1,14 +1,14 @@
--- The values that the heap's block holds, by their places, and how many the blocks hold.
+-- The values that the heap's block holds, by their places.
 use mathlib.Core.{Path._≡_, Path.refl, Path._∙_, List.List, List._∷_, List.Memᴰ·append-right}
 use Prim.Native.Nat.{ℕ, suc, _+_, _-_, _≤_, _<_}
 use native.Mathlib.Omega.{arith}
 use lib.{ListN.length, ListN.getD, ListN.take, ListN.drop, ListN.length-drop, ListN.drop-of-length-le, ListN.take-append-drop, Seq.drop-cons}
-use Rattle.semantics.specs.{Lists._among_, Heap.Record, Heap.blank, Heap.recordValues, Heap.heapValues, Heap.WellFormedHeap, RuleSet.WellFormed}
+use Rattle.semantics.specs.{Lists._among_, Heap.Record, Heap.blank, Heap.recordValues, Heap.heapValues, Heap.WellFormedHeap}
 use Rattle.semantics.specs.Domain.{mostValues}
 use Rattle.semantics.proofs.DomainFacts.{heap-length, heap-values}
 use Rattle.words.specs.Entries.{entries}
-use Rattle.block.specs.Layout.{ruleCount, ruleSetIn, recordCount, recordPlace, recordSize, recordField, recordIn, heapIn}
-use Rattle.block.proofs.{HeapInBlock.heap-count, RuleInBlock.rules-are}
+use Rattle.block.specs.Layout.{recordCount, recordPlace, recordSize, recordField, recordIn, heapIn}
+use Rattle.block.proofs.HeapInBlock.{heap-count}
 use Rattle.words.proofs.Tabulate.{entries-length, tabulate-at}
 use Rattle.domain.specs.Insertion.{Room, Inserted}
 use Rattle.domain.proofs.Insertion.{inserted-none, inserted-also, inserted-room}
@@ -25,11 +25,6 @@ fields-length heap k = entries-length heap (recordPlace k + 2) (recordSize heap 
 
 pub field-at : (heap : List ℕ) (k j : ℕ) → j < recordSize heap k → getD (fieldsOf heap k) j 0 ≡ recordField heap k j
 field-at heap k j h = tabulate-at (recordSize heap k) (recordField heap k) 0 j h
-
--- ---- counts
-
-pub rules-few : (block : List ℕ) → WellFormed (ruleSetIn block) → ruleCount block ≤ 16
-rules-few block formed = omega (arith, formed .rules-few, rules-are block)
 
 -- a value of a record is one of the heap's
 pub value-in : {v : ℕ} (heap : List ℕ) (k : ℕ) → k < recordCount heap → v among recordValues (recordOf heap k) → v among heapValues (heapIn heap)

@@ -1,5 +1,5 @@
 -- What the answers of the engine and of the check say, number by number.
-use mathlib.Core.{Path._≡_, Path.sym, Path.ap, Logic._↔_, Logic._≢_, Logic._⊎_, Logic.⊎-elim, Logic.inl, Logic.inr, List.List}
+use mathlib.Core.{Path._≡_, Path.ap, Logic._↔_, Logic._≢_, Logic._⊎_, Logic.⊎-elim, Logic.inl, Logic.inr, List.List}
 use Prim.Native.Nat.{ℕ, _*_, _≤_, _<_}
 use native.Mathlib.{Omega.arith, Decide.decLt}
 use lib.ListN.{length}

@@ -9,9 +9,9 @@ use Rattle.semantics.specs.{Lists._among_, Heap.Record, Heap.blank, Tree.Applie
 use Rattle.semantics.proofs.Addresses.{taken-by}
 use Rattle.words.specs.Entries.{entries}
 use Rattle.words.proofs.Tabulate.{tabulate-in, tabulate-out, entries-length}
-use Rattle.block.specs.Layout.{termIn, kindIn, pureIn, atomIn, heapIn, ruleIn, ruleSetIn, headArity, pureCount, purePlace, pureKind, pureLeft, pureRight, atomCount, atomPlace, atomAddress, atomSize, atomField, recordCount, recordPlace, recordSize}
-use Rattle.block.specs.Ready.{Formed, variablesIn}
-use Rattle.block.proofs.{HeapInBlock.heap-count, HeapInBlock.record-is, HeapInBlock.record-listed, RuleInBlock.terms-counted}
+use Rattle.block.specs.Layout.{termAs, kindIn, pureAs, atomAs, heapIn, ruleAs, ruleSetRead, fixedIn, headArity, pureCount, purePlace, pureKind, pureLeft, pureRight, atomCount, atomPlace, atomAddress, atomSize, atomField, recordCount, recordPlace, recordSize}
+use Rattle.block.specs.Ready.{FormedRead, variablesIn}
+use Rattle.block.proofs.{HeapInBlock.heap-count, HeapInBlock.record-is, HeapInBlock.record-listed, RuleAs.terms-counted}
 use Rattle.finding.specs.{Values.openEntry, Values.opens, Values.knownIn, Found.Opened, Found.FoundIn, Links.AgreesTo}
 use Rattle.finding.proofs.Opens.{opens-none}
 use Rattle.finding.proofs.Turns.{Met, Sought, Still}
@@ -30,66 +30,66 @@ kind-equal b e = step (ℕ-discrete b 0)
 
 -- ---- links of the rule, by their numbers
 
-module _ (rules : List ℕ) (at : ℕ) where
-  numbered-pure : (left right : Term) → equals left right among ruleIn rules at .pures
-      → (k : ℕ) × (k < pureCount rules at) × (pureKind rules at k ≡ 0) × (left ≡ termIn (pureLeft rules at k)) × (right ≡ termIn (pureRight rules at k))
+module _ (value : ℕ → ℕ) (rules : List ℕ) (at : ℕ) where
+  numbered-pure : (left right : Term) → equals left right among ruleAs value rules at .pures
+      → (k : ℕ) × (k < pureCount rules at) × (pureKind rules at k ≡ 0) × (left ≡ termAs value (pureLeft rules at k)) × (right ≡ termAs value (pureRight rules at k))
   numbered-pure left right m =
-      let (k, h, e) = tabulate-out (pureCount rules at) (λ i. pureIn rules (purePlace at i)) (equals left right) m in
+      let (k, h, e) = tabulate-out (pureCount rules at) (λ i. pureAs value rules (purePlace at i)) (equals left right) m in
       (k, h, kind-equal (pureKind rules at k) (ap (λ (p : Pure). p .kind) e), ap (λ (p : Pure). p .left) e, ap (λ (p : Pure). p .right) e)
 
-  numbered-field : (g : ℕ) (term : Term) → term among atomIn rules (atomPlace at g) .fields
-      → (j : ℕ) × (j < atomSize rules at g) × (termIn (atomField rules at g j) ≡ term)
+  numbered-field : (g : ℕ) (term : Term) → term among atomAs value rules (atomPlace at g) .fields
+      → (j : ℕ) × (j < atomSize rules at g) × (termAs value (atomField rules at g j) ≡ term)
   numbered-field g term m =
-      let (b, listed, is) = Memᴰ·of-map termIn (entries rules (atomPlace at g + 2) (atomSize rules at g)) m in
+      let (b, listed, is) = Memᴰ·of-map (termAs value) (entries rules (atomPlace at g + 2) (atomSize rules at g)) m in
       let (j, h, e) = tabulate-out (atomSize rules at g) (atomField rules at g) b listed in
-      (j, h, ap termIn (sym e) ∙ is)
+      (j, h, ap (termAs value) (sym e) ∙ is)
 
-  same-size : (heap : List ℕ) (i g : ℕ) → i < recordCount heap → length (getD (heapIn heap) i blank .fields) ≡ length (atomIn rules (atomPlace at g) .fields)
+  same-size : (heap : List ℕ) (i g : ℕ) → i < recordCount heap → length (getD (heapIn heap) i blank .fields) ≡ length (atomAs value rules (atomPlace at g) .fields)
       → recordSize heap i ≡ atomSize rules at g
   same-size heap i g h sized =
       sym (entries-length heap (recordPlace i + 2) (recordSize heap i)) ∙ ap (λ (r : Record). length (r .fields)) (record-is heap i h) ∙ sized
-      ∙ terms-counted rules (atomPlace at g + 2) (atomSize rules at g)
+      ∙ terms-counted value rules (atomPlace at g + 2) (atomSize rules at g)
 
 -- ---- what is known is closed
 
-module _ (rules : List ℕ) (at : ℕ) (heap : List ℕ) (f : Formed rules at) (values : List ℕ) (still : Still rules at heap values) where
-  known-right : (left right : Term) → equals left right among ruleIn rules at .pures → Has (knownIn values (variablesIn rules at)) left
+module _ (given rules : List ℕ) (at : ℕ) (heap : List ℕ) (f : FormedRead given rules at) (values : List ℕ) (still : Still rules at heap values) where
+  known-right : (left right : Term) → equals left right among ruleAs (fixedIn given) rules at .pures → Has (knownIn values (variablesIn rules at)) left
       → Has (knownIn values (variablesIn rules at)) right
   known-right left right m has =
-      let (k, h, is, l, r) = numbered-pure rules at left right m in
-      rw r (has-then values (variablesIn rules at) rules (f .ready .variables-few) (f .ready .pure-left k h) (f .ready .pure-right k h) (still .pures k h .to-right is) (rw l at has))
+      let (k, h, is, l, r) = numbered-pure (fixedIn given) rules at left right m in
+      rw r (has-then values (variablesIn rules at) (fixedIn given) (f .ready .variables-few) (f .ready .pure-left k h) (f .ready .pure-right k h) (still .pures k h .to-right is) (rw l at has))
 
-  known-left : (left right : Term) → equals left right among ruleIn rules at .pures → Has (knownIn values (variablesIn rules at)) right
+  known-left : (left right : Term) → equals left right among ruleAs (fixedIn given) rules at .pures → Has (knownIn values (variablesIn rules at)) right
       → Has (knownIn values (variablesIn rules at)) left
   known-left left right m has =
-      let (k, h, is, l, r) = numbered-pure rules at left right m in
-      rw l (has-then values (variablesIn rules at) rules (f .ready .variables-few) (f .ready .pure-right k h) (f .ready .pure-left k h) (still .pures k h .to-left is) (rw r at has))
+      let (k, h, is, l, r) = numbered-pure (fixedIn given) rules at left right m in
+      rw l (has-then values (variablesIn rules at) (fixedIn given) (f .ready .variables-few) (f .ready .pure-right k h) (f .ready .pure-left k h) (still .pures k h .to-left is) (rw r at has))
 
-  known-field : (atom : PointsTo) (term : Term) → atom among ruleIn rules at .points-to → term among atom .fields → (i : ℕ) → i < length (heapIn heap)
+  known-field : (atom : PointsTo) (term : Term) → atom among ruleAs (fixedIn given) rules at .points-to → term among atom .fields → (i : ℕ) → i < length (heapIn heap)
       → length (getD (heapIn heap) i blank .fields) ≡ length (atom .fields)
       → knownOf (knownIn values (variablesIn rules at)) (var (atom .address)) ≡ some (getD (heapIn heap) i blank .address)
       → Has (knownIn values (variablesIn rules at)) term
   known-field atom term m l i below sized known =
       let n = variablesIn rules at in
-      let (g, h, e) = tabulate-out (atomCount rules at) (λ k. atomIn rules (atomPlace at k)) atom m in
-      let (j, few, is) = numbered-field rules at g term (rw e at l) in
+      let (g, h, e) = tabulate-out (atomCount rules at) (λ k. atomAs (fixedIn given) rules (atomPlace at k)) atom m in
+      let (j, few, is) = numbered-field (fixedIn given) rules at g term (rw e at l) in
       let (valued, address) = entry-has values n (atomAddress rules at g) (getD (heapIn heap) i blank .address) (f .ready .atom-address g h) (rw e at known) in
       let there : i < recordCount heap = omega (arith, heap-count heap) in
       let at-address = address ∙ ap (λ (r : Record). r .address) (sym (record-is heap i there)) in
       rw (← is)
-      (valued-has values n rules (f .ready .variables-few) (atomField rules at g j) (f .ready .atom-field g h j few)
-      (still .atoms g h .fields i there (same-size rules at heap i g there (rw e at sized)) valued at-address j few))
+      (valued-has values n (fixedIn given) (f .ready .variables-few) (atomField rules at g j) (f .ready .atom-field g h j few)
+      (still .atoms g h .fields i there (same-size (fixedIn given) rules at heap i g there (rw e at sized)) valued at-address j few))
 
 -- ---- wherever the rule applies
 
-module _ (rules : List ℕ) (at : ℕ) (heap arguments : List ℕ) where
+module _ (given rules : List ℕ) (at : ℕ) (heap arguments : List ℕ) where
   -- conditions and records by their numbers
-  applies-met : {bound indices : List ℕ} → Applies (ruleSetIn rules) (heapIn heap) (ruleIn rules at) (take (headArity rules at) arguments) bound indices
-      → Met rules at heap (take (headArity rules at) arguments ++ bound)
+  applies-met : {bound indices : List ℕ} → Applies (ruleSetRead given rules) (heapIn heap) (ruleAs (fixedIn given) rules at) (take (headArity rules at) arguments) bound indices
+      → Met (fixedIn given) rules at heap (take (headArity rules at) arguments ++ bound)
   applies-met a = record {
-    pures = λ k h. a .meets (pureIn rules (purePlace at k)) (tabulate-in (pureCount rules at) (λ i. pureIn rules (purePlace at i)) k h);
+    pures = λ k h. a .meets (pureAs (fixedIn given) rules (purePlace at k)) (tabulate-in (pureCount rules at) (λ i. pureAs (fixedIn given) rules (purePlace at i)) k h);
     atoms = λ g h.
-        let t = taken-by (a .takes) (tabulate-in (atomCount rules at) (λ i. atomIn rules (atomPlace at i)) g h) in
+        let t = taken-by (a .takes) (tabulate-in (atomCount rules at) (λ i. atomAs (fixedIn given) rules (atomPlace at i)) g h) in
         let below : t .index < recordCount heap = omega (arith, heap-count heap, t .below) in
         Memᴰ·cast (sym (t .is) ∙ sym (record-is heap (t .index) below)) (record-listed heap (t .index) below);
   }
@@ -105,9 +105,9 @@ module _ (rules : List ℕ) (at : ℕ) (heap arguments : List ℕ) where
           ∙ getD-take (headArity rules at) arguments v 0 l ∙ sym (o .earlier v l)
       step (no l) = absurd (omega (arith, o .opened v (omega arith) h))
 
-  pub all-found : Formed rules at → length arguments ≡ 8 → opens arguments ≡ 0 → (first values : List ℕ) → length values ≡ 8
-      → Opened (headArity rules at) (variablesIn rules at) arguments first → Sought rules at heap first values → Still rules at heap values
-      → FoundIn rules at heap arguments values
+  pub all-found : FormedRead given rules at → length arguments ≡ 8 → opens arguments ≡ 0 → (first values : List ℕ) → length values ≡ 8
+      → Opened (headArity rules at) (variablesIn rules at) arguments first → Sought (fixedIn given) rules at heap first values → Still rules at heap values
+      → FoundIn given rules at heap arguments values
   all-found f long none first values eight o sought still =
       let n = variablesIn rules at in
       let arity = headArity rules at in
@@ -121,9 +121,9 @@ module _ (rules : List ℕ) (at : ℕ) (heap arguments : List ℕ) where
               let known : getD first v 0 < openEntry = omega (arith, opens-none arguments none v) in
               has-entry values n v (omega arith) (omega (arith, sought .keeps v known))
               ∙ ap {B = Option ℕ} some (sought .keeps v known ∙ e ∙ sym (getD-take arity arguments v 0 (omega arith)));
-          to-right = λ {left} {right} m. known-right rules at heap f values still left right m;
-          to-left = λ {left} {right} m. known-left rules at heap f values still left right m;
-          of-field = λ {atom} {term} m l. known-field rules at heap f values still atom term m l;
+          to-right = λ {left} {right} m. known-right given rules at heap f values still left right m;
+          to-left = λ {left} {right} m. known-left given rules at heap f values still left right m;
+          of-field = λ {atom} {term} m l. known-field given rules at heap f values still atom term m l;
           agrees = λ {bound} {indices} a.
               known-agrees values n few (take arity arguments ++ bound)
               (omega (arith, length-append (take arity arguments) bound, a .bound-counted))

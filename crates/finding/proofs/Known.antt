@@ -5,10 +5,10 @@ use native.Mathlib.{Omega.arith, Decide.decLt}
 use borrow.Author.Tests.{lt-ltb, le-ltb}
 use lib.{ListN.length, ListN.getD, ListN.take, ListN.length-map, ListN.List·getD-map, ListN.List·getD-eq-default, Seq.getD-take, Seq.length-take-le}
 use Rattle.semantics.specs.{Found.Known, Found.knownOf, Found.Has, Found.Agrees, Tree.valueOf}
-use Rattle.block.specs.{Layout.termIn, Ready.TermByte}
-use Rattle.block.proofs.{TermsInBlock.term-variable, TermsInBlock.term-fixed, Scopes.term-below}
+use Rattle.block.specs.{Layout.termAs, Ready.TermByte}
+use Rattle.block.proofs.TermsInBlock.{term-variable, term-fixed}
 use Rattle.finding.specs.{Values.openEntry, Values.opens, Values.Valued, Values.toldBy, Values.knownIn, Links.AgreesTo}
-use Rattle.finding.proofs.Opens.{opens-none}
+use Rattle.finding.proofs.{Opens.opens-none, Learning.small-valued}
 
 -- ---- one entry
 
@@ -30,11 +30,11 @@ is-told x y e = step (decLt x openEntry)
 
 -- ---- a term
 
-known-variable : (env : Known) (t : ℕ) → t < 128 → knownOf env (termIn t) ≡ getD env t (some 0)
-known-variable env t h = rw (lt-ltb t 128 h, knownOf) refl
+known-variable : (value : ℕ → ℕ) (env : Known) (t : ℕ) → t < 128 → knownOf env (termAs value t) ≡ getD env t (some 0)
+known-variable value env t h = rw (lt-ltb t 128 h, knownOf) refl
 
-known-fixed : (env : Known) (t : ℕ) → 128 ≤ t → knownOf env (termIn t) ≡ some (t - 128)
-known-fixed env t h = rw (le-ltb t 128 h, knownOf) refl
+known-fixed : (value : ℕ → ℕ) (env : Known) (t : ℕ) → 128 ≤ t → knownOf env (termAs value t) ≡ some (value (t - 128))
+known-fixed value env t h = rw (le-ltb t 128 h, knownOf) refl
 
 module _ (values : List ℕ) (n : ℕ) where
   known-at : (v : ℕ) → v < n → getD (knownIn values n) v (some 0) ≡ toldBy (getD values v 0)
@@ -49,33 +49,34 @@ module _ (values : List ℕ) (n : ℕ) where
   pub entry-has : (v x : ℕ) → v < n → getD (knownIn values n) v (some 0) ≡ some x → (getD values v 0 < openEntry) × (getD values v 0 ≡ x)
   entry-has v x h e = is-told (getD values v 0) x (sym (known-at v h) ∙ e)
 
-  module _ (rules : List ℕ) (few : n ≤ 8) (t : ℕ) (byte : TermByte rules n t) where
-    known-term : knownOf (knownIn values n) (termIn t) ≡ toldBy (valueOf values (termIn t))
+  -- every term is known where nothing is open
+  pub valued-all : (t : ℕ) → opens values ≡ 0 → Valued values t
+  valued-all t closed l = opens-none values closed t
+
+  module _ (value : ℕ → ℕ) (few : n ≤ 8) (t : ℕ) (byte : TermByte (λ b. value (b - 128) < openEntry) n t) where
+    known-term : knownOf (knownIn values n) (termAs value t) ≡ toldBy (valueOf values (termAs value t))
     known-term =
         ⊎-elim
-        (λ l. known-variable (knownIn values n) t (omega arith) ∙ known-at t l ∙ ap toldBy (term-variable values t (omega arith)))
-        (λ f.
-        known-fixed (knownIn values n) t (f .0) ∙ sym (told-value (t - 128) (omega (arith, term-below rules n t few byte)))
-        ∙ ap toldBy (term-fixed values t (f .0)))
+        (λ l. known-variable value (knownIn values n) t (omega arith) ∙ known-at t l ∙ ap toldBy (term-variable value values t (omega arith)))
+        (λ f. known-fixed value (knownIn values n) t (f .0) ∙ sym (told-value (value (t - 128)) (f .1)) ∙ ap toldBy (term-fixed value values t (f .0)))
         byte
 
-    -- it is known where nothing is open
-    pub valued-all : opens values ≡ 0 → Valued values t
-    valued-all closed =
-        ⊎-elim
-        (λ l. omega (arith, opens-none values closed t, term-variable values t (omega arith)))
-        (λ e. omega (arith, term-below rules n t few byte, term-fixed values t (e .0))) byte
+    pub valued-small : Valued values t → valueOf values (termAs value t) < openEntry
+    valued-small h =
+        ⊎-elim (λ l. omega (arith, h (omega arith), term-variable value values t (omega arith))) (λ f. omega (arith, f .1, term-fixed value values t (f .0))) byte
 
-    pub valued-has : Valued values t → Has (knownIn values n) (termIn t)
-    valued-has h = (valueOf values (termIn t), known-term ∙ told-value (valueOf values (termIn t)) h)
+    pub valued-has : Valued values t → Has (knownIn values n) (termAs value t)
+    valued-has h = (valueOf values (termAs value t), known-term ∙ told-value (valueOf values (termAs value t)) (valued-small h))
 
-    has-valued : Has (knownIn values n) (termIn t) → Valued values t
-    has-valued has = let (x, e) = has in is-told (valueOf values (termIn t)) x (sym known-term ∙ e) .0
+    has-valued : Has (knownIn values n) (termAs value t) → Valued values t
+    has-valued has =
+        let (x, e) = has in
+        small-valued value values t (is-told (valueOf values (termAs value t)) x (sym known-term ∙ e) .0)
 
   -- from one term to another
-  pub has-then : (rules : List ℕ) → n ≤ 8 → {t u : ℕ} → TermByte rules n t → TermByte rules n u → (Valued values t → Valued values u)
-      → Has (knownIn values n) (termIn t) → Has (knownIn values n) (termIn u)
-  has-then rules few {t} {u} from to leads has = valued-has rules few u to (leads (has-valued rules few t from has))
+  pub has-then : (value : ℕ → ℕ) → n ≤ 8 → {t u : ℕ} → TermByte (λ b. value (b - 128) < openEntry) n t → TermByte (λ b. value (b - 128) < openEntry) n u
+      → (Valued values t → Valued values u) → Has (knownIn values n) (termAs value t) → Has (knownIn values n) (termAs value u)
+  has-then value few {t} {u} from to leads has = valued-has value few u to (leads (has-valued value few t from has))
 
   -- ---- all variables
 

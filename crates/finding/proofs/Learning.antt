@@ -2,10 +2,10 @@
 -- agree with what was known and give the terms what is learnt agree with what is known then.
 use mathlib.Core.{List.List, Path._≡_, Path.refl, Path.ap, Path._∙_, Logic.⊎-elim}
 use Prim.Native.Nat.{ℕ, _+_, _≤_, _<_}
-use native.Mathlib.{Omega.arith, Decide.ℕ-discrete, Decide.decLt}
+use native.Mathlib.{Omega.arith, Decide.ℕ-discrete}
 use lib.{ListN.length, ListN.getD, ListN.set, Seq.getD-set-same, Seq.getD-set-other}
 use Rattle.semantics.specs.Tree.{valueOf}
-use Rattle.block.specs.{Layout.termIn, Ready.TermByte}
+use Rattle.block.specs.{Layout.termAs, Ready.TermByte}
 use Rattle.block.proofs.TermsInBlock.{term-variable, term-fixed}
 use Rattle.finding.specs.Values.{openEntry, Valued, Learnt}
 use Rattle.finding.specs.Links.{Keeps, AgreesTo, Along, AlongEach}
@@ -17,21 +17,19 @@ keeps-then a b c ab bc v h = bc v (omega (arith, ab v h)) ∙ ab v h
 
 -- it stays known
 pub still-valued : (before after : List ℕ) (t : ℕ) → Keeps before after → Valued before t → Valued after t
-still-valued before after t keeps h = step (decLt t 128)
-  where
-    step : Dec (t < 128) → Valued after t
-    step (yes l) = omega (arith, term-variable before t l, term-variable after t l, keeps t (omega (arith, term-variable before t l)))
-    step (no l) = omega (arith, term-fixed before t (omega arith), term-fixed after t (omega arith))
+still-valued before after t keeps h l = omega (arith, keeps t (h l), h l)
+
+-- a value that is below the bound is known
+pub small-valued : (value : ℕ → ℕ) (values : List ℕ) (t : ℕ) → valueOf values (termAs value t) < openEntry → Valued values t
+small-valued value values t h l = omega (arith, term-variable value values t l)
 
 -- it is the term's value in all that agrees
-pub agreed : (rules : List ℕ) (n t : ℕ) (values σ : List ℕ) → n ≤ 8 → TermByte rules n t → AgreesTo n values σ → Valued values t
-    → valueOf σ (termIn t) ≡ valueOf values (termIn t)
-agreed rules n t values σ few byte agrees h =
+pub agreed : (value : ℕ → ℕ) (Fixed : ℕ → Type 0) (n t : ℕ) (values σ : List ℕ) → n ≤ 8 → TermByte Fixed n t → AgreesTo n values σ → Valued values t
+    → valueOf σ (termAs value t) ≡ valueOf values (termAs value t)
+agreed value Fixed n t values σ few byte agrees h =
     ⊎-elim
-    (λ l.
-    let known : getD values t 0 < openEntry = omega (arith, term-variable values t (omega arith)) in
-    omega (arith, term-variable values t (omega arith), term-variable σ t (omega arith), agrees t l known))
-    (λ e. omega (arith, term-fixed values t (e .0), term-fixed σ t (e .0)))
+    (λ l. omega (arith, term-variable value values t (omega arith), term-variable value σ t (omega arith), agrees t l (h (omega arith))))
+    (λ e. omega (arith, term-fixed value values t (e .0), term-fixed value σ t (e .0)))
     byte
 
 -- ---- one term learnt
@@ -44,28 +42,28 @@ pub learnt-valued : {t x : ℕ} {before after : List ℕ} → length before ≡ 
 learnt-valued {t} long few (Learnt.kept k e) = rw e k
 learnt-valued {t} {x} {before} {after} long few (Learnt.given l o e) =
     let is : getD after t 0 ≡ x = ap (λ (z : List ℕ). getD z t 0) e ∙ getD-set-same before t x 0 (omega arith) in
-    omega (arith, term-variable after t (omega arith))
+    λ low. omega arith
 
-learnt-agrees : {t x : ℕ} {before after : List ℕ} → length before ≡ 8 → Learnt t x before after
-    → (n : ℕ) (σ : List ℕ) → valueOf σ (termIn t) ≡ x → AgreesTo n before σ → AgreesTo n after σ
-learnt-agrees {t} {x} {before} {after} long (Learnt.kept k e) n σ is agrees v h l =
+learnt-agrees : (value : ℕ → ℕ) {t x : ℕ} {before after : List ℕ} → length before ≡ 8 → Learnt t x before after
+    → (n : ℕ) (σ : List ℕ) → valueOf σ (termAs value t) ≡ x → AgreesTo n before σ → AgreesTo n after σ
+learnt-agrees value {t} {x} {before} {after} long (Learnt.kept k e) n σ is agrees v h l =
     let same : getD after v 0 ≡ getD before v 0 = ap (λ (z : List ℕ). getD z v 0) e in
     omega (arith, agrees v h (omega arith))
-learnt-agrees {t} {x} {before} {after} long (Learnt.given l o e) n σ is agrees v h k = step (ℕ-discrete v t)
+learnt-agrees value {t} {x} {before} {after} long (Learnt.given l o e) n σ is agrees v h k = step (ℕ-discrete v t)
   where
     at : (w : ℕ) → getD after w 0 ≡ getD (set before t x) w 0
     at w = ap (λ (z : List ℕ). getD z w 0) e
 
     step : Dec (v ≡ t) → getD σ v 0 ≡ getD after v 0
-    step (yes q) = rw q (omega (arith, at t, getD-set-same before t x 0 (omega arith), term-variable σ t (omega arith)))
+    step (yes q) = rw q (omega (arith, at t, getD-set-same before t x 0 (omega arith), term-variable value σ t (omega arith)))
     step (no q) =
         let other : getD after v 0 ≡ getD before v 0 = at v ∙ getD-set-other before t v x 0 q in
         omega (arith, agrees v h (omega arith))
 
 -- a link that says which value the term has
-pub learnt-along : {t x : ℕ} {before after : List ℕ} → length before ≡ 8 → x < openEntry → Learnt t x before after
-    → (n : ℕ) → Along n (λ σ. valueOf σ (termIn t) ≡ x) (λ b a. Valued a t) before after
-learnt-along long few l n = record { keeps = learnt-keeps l; agrees = learnt-agrees long l n; closed = learnt-valued long few l }
+pub learnt-along : (value : ℕ → ℕ) {t x : ℕ} {before after : List ℕ} → length before ≡ 8 → x < openEntry → Learnt t x before after
+    → (n : ℕ) → Along n (λ σ. valueOf σ (termAs value t) ≡ x) (λ b a. Valued a t) before after
+learnt-along value long few l n = record { keeps = learnt-keeps l; agrees = learnt-agrees value long l n; closed = learnt-valued long few l }
 
 -- ---- links one after the other
 

@@ -1,4 +1,5 @@
 pub mod Opens
+pub mod Shapes
 pub mod Learning
 pub mod Addresses
 pub mod Equalities

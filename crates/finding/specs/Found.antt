@@ -4,7 +4,7 @@ use mathlib.Core.{List.List, Path._≡_}
 use Prim.Native.Nat.{ℕ, _≤_, _<_}
 use lib.ListN.{getD, take}
 use Rattle.semantics.specs.Found.{AllFound}
-use Rattle.block.specs.Layout.{ruleIn, ruleSetIn, heapIn, headArity}
+use Rattle.block.specs.Layout.{ruleAs, ruleSetRead, fixedIn, heapIn, headArity}
 use Rattle.block.specs.Ready.{variablesIn}
 use Rattle.finding.specs.Values.{openEntry, knownIn}
 
@@ -17,6 +17,6 @@ pub record Opened (from upto : ℕ) (before after : List ℕ) : Type 0 where
 
 -- ---- all that can be found, from the arguments of the head; an entry that is no variable's has a value
 
-pub record FoundIn (rules : List ℕ) (at : ℕ) (heap arguments after : List ℕ) : Type 0 where
-  pub is : AllFound (ruleSetIn rules) (heapIn heap) (ruleIn rules at) (take (headArity rules at) arguments) (knownIn after (variablesIn rules at))
+pub record FoundIn (given rules : List ℕ) (at : ℕ) (heap arguments after : List ℕ) : Type 0 where
+  pub is : AllFound (ruleSetRead given rules) (heapIn heap) (ruleAs (fixedIn given) rules at) (take (headArity rules at) arguments) (knownIn after (variablesIn rules at))
   pub later : (v : ℕ) → variablesIn rules at ≤ v → getD after v 0 < openEntry

@@ -1,10 +1,10 @@
--- Along the links of a rule: its equalities, and the fields of records at known addresses. No link loses a value; what it adds is what the
+-- Along the links of a rule: its equalities, and the fields of records at known addresses; `value` has the fixed values. No link loses a value; what it adds is what the
 -- rule has wherever it applies; and what it leads to from a known side is known then.
 use mathlib.Core.{List.List, Path._≡_}
 use Prim.Native.Nat.{ℕ, _+_, _<_}
 use lib.ListN.{getD}
 use Rattle.semantics.specs.{Lists._among_, Tree.valueOf, Tree.Meets, Tree.asked}
-use Rattle.block.specs.Layout.{termIn, pureIn, atomIn, heapIn, pureCount, purePlace, pureKind, pureLeft, pureRight, atomCount, atomPlace, atomAddress, atomSize, atomField, recordCount, recordAddress, recordSize, recordField}
+use Rattle.block.specs.Layout.{termAs, pureAs, atomAs, heapIn, pureCount, purePlace, pureKind, pureLeft, pureRight, atomCount, atomPlace, atomAddress, atomSize, atomField, recordCount, recordAddress, recordSize, recordField}
 use Rattle.block.specs.Ready.{variablesIn}
 use Rattle.finding.specs.Values.{openEntry, Valued}
 
@@ -33,27 +33,27 @@ pub record PureClosed (rules : List ℕ) (at k : ℕ) (before after : List ℕ) 
   pub to-right : pureKind rules at k ≡ 0 → Valued before (pureLeft rules at k) → Valued after (pureRight rules at k)
   pub to-left : pureKind rules at k ≡ 0 → Valued before (pureRight rules at k) → Valued after (pureLeft rules at k)
 
-abbrev pub PureMet : List ℕ → ℕ → ℕ → List ℕ → Type 0
-PureMet rules at k σ = Meets σ (pureIn rules (purePlace at k))
+abbrev pub PureMet : (ℕ → ℕ) → List ℕ → ℕ → ℕ → List ℕ → Type 0
+PureMet value rules at k σ = Meets σ (pureAs value rules (purePlace at k))
 
-abbrev pub AlongPure : List ℕ → ℕ → ℕ → List ℕ → List ℕ → Type 0
-AlongPure rules at k before after = Along (variablesIn rules at) (PureMet rules at k) (PureClosed rules at k) before after
+abbrev pub AlongPure : (ℕ → ℕ) → List ℕ → ℕ → ℕ → List ℕ → List ℕ → Type 0
+AlongPure value rules at k before after = Along (variablesIn rules at) (PureMet value rules at k) (PureClosed rules at k) before after
 
-abbrev pub AlongPures : List ℕ → ℕ → List ℕ → List ℕ → Type 0
-AlongPures rules at before after = AlongEach (pureCount rules at) (variablesIn rules at) (PureMet rules at) (PureClosed rules at) before after
+abbrev pub AlongPures : (ℕ → ℕ) → List ℕ → ℕ → List ℕ → List ℕ → Type 0
+AlongPures value rules at before after = AlongEach (pureCount rules at) (variablesIn rules at) (PureMet value rules at) (PureClosed rules at) before after
 
 -- ---- fields of records
 
 -- Term j, from a place of the rules on, has field j of record i; it is known.
-abbrev pub FieldIs : List ℕ → ℕ → List ℕ → ℕ → ℕ → List ℕ → Type 0
-FieldIs rules terms heap i j σ = valueOf σ (termIn (getD rules (terms + j) 0)) ≡ recordField heap i j
+abbrev pub FieldIs : (ℕ → ℕ) → List ℕ → ℕ → List ℕ → ℕ → ℕ → List ℕ → Type 0
+FieldIs value rules terms heap i j σ = valueOf σ (termAs value (getD rules (terms + j) 0)) ≡ recordField heap i j
 
 abbrev pub FieldKnown : List ℕ → ℕ → ℕ → List ℕ → List ℕ → Type 0
 FieldKnown rules terms j before after = Valued after (getD rules (terms + j) 0)
 
--- So many terms have got the fields of record i, whatever the number of variables.
+-- So many terms have got the fields of record i, whatever the number of variables and the fixed values.
 abbrev pub AlongFields : List ℕ → ℕ → List ℕ → ℕ → ℕ → List ℕ → List ℕ → Type 0
-AlongFields rules terms heap i count before after = (n : ℕ) → AlongEach count n (FieldIs rules terms heap i) (FieldKnown rules terms) before after
+AlongFields rules terms heap i count before after = (value : ℕ → ℕ) (n : ℕ) → AlongEach count n (FieldIs value rules terms heap i) (FieldKnown rules terms) before after
 
 -- Where an atom's address was known, and a record with as many fields is there, all fields are known.
 pub record AtomClosed (rules : List ℕ) (at : ℕ) (heap : List ℕ) (g : ℕ) (before after : List ℕ) : Type 0 where
@@ -61,11 +61,15 @@ pub record AtomClosed (rules : List ℕ) (at : ℕ) (heap : List ℕ) (g : ℕ) 
       → getD before (atomAddress rules at g) 0 ≡ recordAddress heap i → (j : ℕ) → j < atomSize rules at g → Valued after (atomField rules at g j)
 
 -- The record that an atom asks for is there.
-abbrev pub AtomHas : List ℕ → ℕ → List ℕ → ℕ → List ℕ → Type 0
-AtomHas rules at heap g σ = asked σ (atomIn rules (atomPlace at g)) among heapIn heap
+abbrev pub AtomHas : (ℕ → ℕ) → List ℕ → ℕ → List ℕ → ℕ → List ℕ → Type 0
+AtomHas value rules at heap g σ = asked σ (atomAs value rules (atomPlace at g)) among heapIn heap
 
+-- Along atoms, whatever the fixed values: the address is a variable.
 abbrev pub AlongAtom : List ℕ → ℕ → List ℕ → ℕ → List ℕ → List ℕ → Type 0
-AlongAtom rules at heap g before after = Along (variablesIn rules at) (AtomHas rules at heap g) (AtomClosed rules at heap g) before after
+AlongAtom rules at heap g before after = (value : ℕ → ℕ) → Along (variablesIn rules at) (AtomHas value rules at heap g) (AtomClosed rules at heap g) before after
+
+abbrev pub AlongAtomsAs : ℕ → (ℕ → ℕ) → List ℕ → ℕ → List ℕ → List ℕ → List ℕ → Type 0
+AlongAtomsAs m value rules at heap before after = AlongEach m (variablesIn rules at) (AtomHas value rules at heap) (AtomClosed rules at heap) before after
 
 abbrev pub AlongAtoms : List ℕ → ℕ → List ℕ → List ℕ → List ℕ → Type 0
-AlongAtoms rules at heap before after = AlongEach (atomCount rules at) (variablesIn rules at) (AtomHas rules at heap) (AtomClosed rules at heap) before after
+AlongAtoms rules at heap before after = (value : ℕ → ℕ) → AlongAtomsAs (atomCount rules at) value rules at heap before after

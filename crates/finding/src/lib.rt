@@ -5,6 +5,7 @@ pub mod records;
 pub mod values;
 
 use block::HeapBlock;
+use block::QueryBlock;
 use block::RuleBlock;
 use block::head_arity;
 use block::variable_count;
@@ -12,15 +13,16 @@ use links::along_atoms;
 use links::along_pures;
 use values::OPEN;
 use values::Values;
+ghost use Prim.Native.Nat.{_≤_};
 ghost use Rattle.semantics.specs.Heap.{WellFormedHeap};
-ghost use Rattle.block.specs.Layout.{heapIn, headArity};
-ghost use Rattle.block.specs.Ready.{Formed, variablesIn};
-ghost use Rattle.finding.specs.Values.{Counted};
+ghost use Rattle.block.specs.Layout.{heapIn, headArity, constantCount};
+ghost use Rattle.block.specs.Ready.{FormedRead, variablesIn};
+ghost use Rattle.finding.specs.Values.{Counted, Shaped};
 ghost use Rattle.finding.specs.Found.{Opened, FoundIn};
 
 // The beginning: the arguments stay, every bound variable is opened. The number of these.
 fn begin(rules: &RuleBlock, rule: usize, values: &mut Values) -> usize
-    requires { ⌜ Formed (now rules) rule × Counted (now values) 0 ⌝ }
+    requires { ⌜ Shaped (now rules) rule × Counted (now values) 0 ⌝ }
     ensures { λ r. ⌜ Opened (headArity (now (rules .entry)) rule) (variablesIn (now (rules .entry)) rule) (now (values .entry)) (now (values .exit)) × Counted (now (values .exit)) r ⌝ }
 {
     let arity = head_arity(rules, rule);
@@ -35,13 +37,19 @@ fn begin(rules: &RuleBlock, rule: usize, values: &mut Values) -> usize
 
 // Finds the values of the rule's variables from the arguments of its head, which are the first entries; gives the number of variables that
 // stay open. Each turn goes along every link once and ends the search if nothing is learnt.
-pub fn find(rules: &RuleBlock, rule: usize, heap: &HeapBlock, values: &mut Values) -> usize
-    requires { ⌜ Formed (now rules) rule × WellFormedHeap (heapIn (now heap)) × Counted (now values) 0 ⌝ }
-    ensures { λ r. ⌜ FoundIn (now (rules .entry)) rule (now (heap .entry)) (now (values .entry)) (now (values .exit)) × Counted (now (values .exit)) r ⌝ }
+pub fn find(
+    rules: &RuleBlock,
+    rule: usize,
+    heap: &HeapBlock,
+    values: &mut Values,
+    given: &QueryBlock,
+) -> usize
+    requires { ⌜ FormedRead (now given) (now rules) rule × WellFormedHeap (heapIn (now heap)) × Counted (now values) 0 × (constantCount (now given) ≤ 8) ⌝ }
+    ensures { λ r. ⌜ FoundIn (now (given .entry)) (now (rules .entry)) rule (now (heap .entry)) (now (values .entry)) (now (values .exit)) × Counted (now (values .exit)) r ⌝ }
 {
     let mut unknown = begin(rules, rule, values);
     while 0 < unknown {
-        let some = along_pures(rules, rule, values, unknown);
+        let some = along_pures(rules, rule, values, unknown, given);
         let left = along_atoms(rules, rule, heap, values, some);
         if left == unknown {
             return unknown;

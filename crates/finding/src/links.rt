@@ -5,7 +5,9 @@ use super::values::OPEN;
 use super::values::Values;
 use super::values::entry;
 use super::values::learn;
+use super::values::variable;
 use block::HeapBlock;
+use block::QueryBlock;
 use block::RuleBlock;
 use block::atom_address;
 use block::atom_count;
@@ -19,9 +21,9 @@ use block::pure_left;
 use block::pure_right;
 ghost use Prim.Native.Nat.{_≤_, _<_};
 ghost use Rattle.semantics.specs.Heap.{WellFormedHeap};
-ghost use Rattle.block.specs.Layout.{heapIn, pureCount, atomCount};
-ghost use Rattle.block.specs.Ready.{Formed, Terms};
-ghost use Rattle.finding.specs.Values.{Counted};
+ghost use Rattle.block.specs.Layout.{heapIn, pureCount, atomCount, constantCount, fixedIn};
+ghost use Rattle.block.specs.Ready.{FormedRead, Terms};
+ghost use Rattle.finding.specs.Values.{Counted, Shaped};
 ghost use Rattle.finding.specs.Links.{AlongPure, AlongPures, AlongFields, AlongAtom, AlongAtoms};
 
 // Along pure condition k: where it is an equality, what is known of one side is learnt of the other.
@@ -31,20 +33,21 @@ fn along_pure(
     k: usize,
     values: &mut Values,
     unknown: usize,
+    given: &QueryBlock,
 ) -> usize
-    requires { ⌜ Formed (now rules) rule × (k < pureCount (now rules) rule) × Counted (now values) unknown ⌝ }
-    ensures { λ r. ⌜ AlongPure (now (rules .entry)) rule k (now (values .entry)) (now (values .exit)) × Counted (now (values .exit)) r ⌝ }
+    requires { ⌜ FormedRead (now given) (now rules) rule × (k < pureCount (now rules) rule) × Counted (now values) unknown × (constantCount (now given) ≤ 8) ⌝ }
+    ensures { λ r. ⌜ AlongPure (fixedIn (now (given .entry))) (now (rules .entry)) rule k (now (values .entry)) (now (values .exit)) × Counted (now (values .exit)) r ⌝ }
 {
     if pure_kind(rules, rule, k) != 0 {
         return unknown;
     }
     let left = pure_left(rules, rule, k);
     let right = pure_right(rules, rule, k);
-    let x = entry(values, left);
+    let x = entry(values, left, given);
     if x < OPEN {
         return learn(values, unknown, right, x);
     }
-    let y = entry(values, right);
+    let y = entry(values, right, given);
     if y < OPEN {
         return learn(values, unknown, left, y);
     }
@@ -52,15 +55,21 @@ fn along_pure(
 }
 
 // Along every pure condition once.
-pub fn along_pures(rules: &RuleBlock, rule: usize, values: &mut Values, unknown: usize) -> usize
-    requires { ⌜ Formed (now rules) rule × Counted (now values) unknown ⌝ }
-    ensures { λ r. ⌜ AlongPures (now (rules .entry)) rule (now (values .entry)) (now (values .exit)) × Counted (now (values .exit)) r ⌝ }
+pub fn along_pures(
+    rules: &RuleBlock,
+    rule: usize,
+    values: &mut Values,
+    unknown: usize,
+    given: &QueryBlock,
+) -> usize
+    requires { ⌜ FormedRead (now given) (now rules) rule × Counted (now values) unknown × (constantCount (now given) ≤ 8) ⌝ }
+    ensures { λ r. ⌜ AlongPures (fixedIn (now (given .entry))) (now (rules .entry)) rule (now (values .entry)) (now (values .exit)) × Counted (now (values .exit)) r ⌝ }
 {
     let count = pure_count(rules, rule);
     let mut left = unknown;
     let mut k = 0;
     while k < count {
-        left = along_pure(rules, rule, k, values, left);
+        left = along_pure(rules, rule, k, values, left, given);
         k += 1;
     }
     left
@@ -97,10 +106,10 @@ fn along_atom(
     values: &mut Values,
     unknown: usize,
 ) -> usize
-    requires { ⌜ Formed (now rules) rule × (g < atomCount (now rules) rule) × WellFormedHeap (heapIn (now heap)) × Counted (now values) unknown ⌝ }
+    requires { ⌜ Shaped (now rules) rule × (g < atomCount (now rules) rule) × WellFormedHeap (heapIn (now heap)) × Counted (now values) unknown ⌝ }
     ensures { λ r. ⌜ AlongAtom (now (rules .entry)) rule (now (heap .entry)) g (now (values .entry)) (now (values .exit)) × Counted (now (values .exit)) r ⌝ }
 {
-    let address = entry(values, atom_address(rules, rule, g));
+    let address = variable(values, atom_address(rules, rule, g));
     if OPEN <= address {
         return unknown;
     }
@@ -123,7 +132,7 @@ pub fn along_atoms(
     values: &mut Values,
     unknown: usize,
 ) -> usize
-    requires { ⌜ Formed (now rules) rule × WellFormedHeap (heapIn (now heap)) × Counted (now values) unknown ⌝ }
+    requires { ⌜ Shaped (now rules) rule × WellFormedHeap (heapIn (now heap)) × Counted (now values) unknown ⌝ }
     ensures { λ r. ⌜ AlongAtoms (now (rules .entry)) rule (now (heap .entry)) (now (values .entry)) (now (values .exit)) × Counted (now (values .exit)) r ⌝ }
 {
     let count = atom_count(rules, rule);

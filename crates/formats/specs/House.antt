@@ -26,4 +26,4 @@ abbrev pub queueAndFree : Rule
 queueAndFree = record { head = 2; bound = 0; pures = []; points-to = []; calls = segment (var 0) nil ∷ segment (var 1) nil ∷ [] }
 
 abbrev pub shapes : RuleSet
-shapes = record { arities = 2 ∷ 1 ∷ 2 ∷ []; rules = segmentEnds ∷ segmentGoesOn ∷ ring ∷ queueAndFree ∷ [] }
+shapes = record { arities = 2 ∷ 1 ∷ 2 ∷ []; constants = []; rules = segmentEnds ∷ segmentGoesOn ∷ ring ∷ queueAndFree ∷ [] }

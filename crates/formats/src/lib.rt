@@ -9,7 +9,7 @@ ghost use mathlib.Core.Path.{_≡_};
 ghost use Rattle.semantics.specs.Contract.{house as houseBook};
 ghost use Rattle.formats.specs.Refusal.{Read};
 
-// Refusals 1 to 9: the book, then the snapshot, then the question, each into its block. On a refusal what the blocks hold means nothing.
+// Refusals 1 to 9: the book, then the snapshot, then the question, each into its block, the book's constants into the question's. On a refusal what the blocks hold means nothing.
 pub fn read(
     book: &[u8],
     snapshot: &[u8],
@@ -20,7 +20,7 @@ pub fn read(
 ) -> Ladder
     ensures { λ r. ⌜ Read (now (book .entry)) (now (snapshot .entry)) (now (question .entry)) (now (rules .exit)) (now (heap .exit)) (now (query .exit)) r ⌝ }
 {
-    match book::read_rules(book, rules) {
+    match book::read_rules(book, rules, query) {
         Ladder::Refused(n) => Ladder::Refused(n),
         Ladder::Accepted => match snapshot::read_heap(snapshot, heap) {
             Ladder::Refused(n) => Ladder::Refused(n),
@@ -32,11 +32,12 @@ pub fn read(
 // ---- the house book
 
 // H: a list segment is predicate 0, a ring 1, a queue with its free chain 2.
-const HOUSE: [u8; 46] = [
+const HOUSE: [u8; 47] = [
     3, // predicates
     2, // arguments of segment
     1, // of ring
     2, // of queue with free chain
+    0, // no constant
     4, // rules
     0, // segment(a, b)
     0, // nothing bound
@@ -82,7 +83,7 @@ const HOUSE: [u8; 46] = [
 ];
 
 // H, to be lent like any book.
-pub fn house() -> [u8; 46]
+pub fn house() -> [u8; 47]
     ensures { λ r. ⌜ r ≡ houseBook ⌝ }
 {
     HOUSE

@@ -1,6 +1,7 @@
 // Rules, heap and query in positions of the domain.
 use block::HeapBlock;
 use block::PlacedHeap;
+use block::QueryBlock;
 use block::RuleBlock;
 ghost use mathlib.Core.Path.{_≡_};
 ghost use mathlib.Core.List.{[], _∷_};
@@ -9,9 +10,9 @@ ghost use lib.ListN.{length, take};
 ghost use Rattle.semantics.specs.RuleSet.{WellFormed, fixedValues};
 ghost use Rattle.semantics.specs.Heap.{WellFormedHeap, recordValues, heapValues};
 ghost use Rattle.semantics.specs.Fact.{position as positionIn};
-ghost use Rattle.block.specs.Layout.{recordPlace, recordSize, recordIn, heapIn, ruleSetIn, heapSize, ruleSetSize};
+ghost use Rattle.block.specs.Layout.{recordPlace, recordSize, recordIn, heapIn, ruleSetRead, constantCount, constantsIn, heapSize, ruleSetSize};
 ghost use Rattle.domain.specs.Insertion.{Room};
-ghost use Rattle.placing.specs.Placed.{Placeable, OnePlaced, HeapPlaced, QueryPlaced, Highest, BytesPlaced, RulesPlaced};
+ghost use Rattle.placing.specs.Placed.{Placeable, OnePlaced, HeapPlaced, QueryPlaced, Highest, BytesPlaced, ConstantsPlaced, RulesPlaced};
 
 // The position of v, which is one of the first n values.
 fn position(domain: &[u32; domain::MOST], n: usize, v: u32) -> u8
@@ -100,36 +101,64 @@ fn highest(rules: &RuleBlock, start: usize, end: usize) -> u8
 fn place_bytes(
     domain: &[u32; domain::MOST],
     n: usize,
+    query: &QueryBlock,
     rules: &mut RuleBlock,
     start: usize,
     end: usize,
 )
-    requires { ⌜ Room (now domain) n 0 × (length (now rules) ≡ ruleSetSize) × (start ≤ end) × (end ≤ ruleSetSize) ⌝ }
-    ensures { λ _. ⌜ BytesPlaced (now (domain .entry)) n (now (rules .entry)) (now (rules .exit)) start end ⌝ }
+    requires { ⌜ Room (now domain) n 0 × (length (now rules) ≡ ruleSetSize) × (start ≤ end) × (end ≤ ruleSetSize) × (constantCount (now query) ≤ 8) ⌝ }
+    ensures { λ _. ⌜ BytesPlaced (now (domain .entry)) n (now (query .entry)) (now (rules .entry)) (now (rules .exit)) start end ⌝ }
 {
     let mut i = start;
     while i < end {
         let byte = words::wide(rules[i]);
         if FIXED <= byte {
-            rules[i] = (FIXED + domain::find(domain, n, (byte - FIXED) as u32)) as u8;
+            let value = block::heap::fixed_value(query, byte - FIXED);
+            rules[i] = (FIXED + domain::find(domain, n, value)) as u8;
         }
         i += 1;
     }
 }
 
-// Writes the fixed values of the rules in positions. Of the bytes that count, only theirs are `FIXED` or more; a rule without one is
-// passed over.
-pub fn place_rules(domain: &[u32; domain::MOST], n: usize, rules: &mut RuleBlock)
-    requires { ⌜ WellFormed (ruleSetIn (now rules)) × (length (now rules) ≡ ruleSetSize) × Placeable (now domain) n (fixedValues (ruleSetIn (now rules))) ⌝ }
-    ensures { λ _. ⌜ RulesPlaced (take n (now (domain .entry))) (now (rules .entry)) (now (rules .exit)) ⌝ }
+// Writes the constants in positions.
+fn place_constants(
+    domain: &[u32; domain::MOST],
+    n: usize,
+    query: &QueryBlock,
+    rules: &mut RuleBlock,
+)
+    requires { ⌜ Placeable (now domain) n (constantsIn (now query)) × (length (now rules) ≡ ruleSetSize) × (constantCount (now query) ≤ 8) ⌝ }
+    ensures { λ _. ⌜ ConstantsPlaced (take n (now (domain .entry))) (now (query .entry)) (now (rules .entry)) (now (rules .exit)) (constantCount (now (query .entry))) ⌝ }
 {
+    let count = block::heap::constant_count(query);
+    block::write_constants(rules, count as u8);
+    let mut k = 0;
+    while k < count {
+        let value = block::heap::fixed_value(query, k + 1);
+        block::write_constant(rules, k, position(domain, n, value));
+        k += 1;
+    }
+}
+
+// Writes constants and fixed terms of the rules in positions. Of the bytes that count in a rule, only those of fixed terms are `FIXED` or
+// more; a rule without one is passed over.
+pub fn place_rules(
+    domain: &[u32; domain::MOST],
+    n: usize,
+    query: &QueryBlock,
+    rules: &mut RuleBlock,
+)
+    requires { ⌜ WellFormed (ruleSetRead (now query) (now rules)) × (length (now rules) ≡ ruleSetSize) × Placeable (now domain) n (fixedValues (ruleSetRead (now query) (now rules))) ⌝ }
+    ensures { λ _. ⌜ RulesPlaced (take n (now (domain .entry))) (now (query .entry)) (now (rules .entry)) (now (rules .exit)) ⌝ }
+{
+    place_constants(domain, n, query, rules);
     let count = block::rule_count(rules);
     let mut k = 0;
     while k < count {
         let start = block::rule_place(k);
         let end = block::rule_place(k + 1);
         if FIXED <= words::wide(highest(rules, start, end)) {
-            place_bytes(domain, n, rules, start, end);
+            place_bytes(domain, n, query, rules, start, end);
         }
         k += 1;
     }

@@ -44,7 +44,7 @@ row count read layout = record {
 abbrev pub many : {A : Type 0} → ℕ → Layout A → Layout (List A)
 many count layout = row count (times count (layout .read)) layout
 
--- A value of a field or of a query; nothing is asked of it.
+-- A field, a query's value or a constant; nothing is asked of it.
 abbrev pub Any : ℕ → Type 0
 Any v = Unit {0}
 

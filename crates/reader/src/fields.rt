@@ -1,4 +1,4 @@
-// Numbers of four bytes, and the values that fields and queries have.
+// Numbers of four bytes, and the values that fields, queries and constants have.
 use super::Cursor;
 use super::Number;
 use super::bytes::byte;
@@ -37,14 +37,14 @@ pub fn word(s: &[u8], c: Cursor, short: u8) -> Number
     }
 }
 
-// How four bytes of a field or of a query's value are read as a value: as they are.
+// How four bytes of a field, of a query's value or of a constant are read as a value: as they are.
 fn as_read(v: u32) -> u32
     ensures { λ r. ⌜ r ≡ asRead v ⌝ }
 {
     v
 }
 
-// A field or a query's value.
+// A field, a query's value or a constant.
 fn value(s: &[u8], c: Cursor, block: &mut [u32], at: usize, short: u8) -> Cursor
     requires { ⌜ at < length (now block) ⌝ }
     ensures { λ r. ⌜ Fills (valueLayout short) at (now (s .entry)) c (now (block .entry)) (now (block .exit)) r ⌝ }

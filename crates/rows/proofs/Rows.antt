@@ -1,6 +1,6 @@
 -- The starred rows, as one theorem: a test that computes over the whole table of rows, from the bytes on, and the lemma that a row that
 -- passes it is true.
-use mathlib.Core.{Bool.Bool, Bool.true, Bool.false, Bool.false≢true, Path._≡_, Path.refl, Path.sym, Path._∙_, List.List, List.[], List._∷_, List.flatMap}
+use mathlib.Core.{Bool.Bool, Bool.true, Bool.false, Bool.false≢true, Path._≡_, Path.refl, Path.sym, Path._∙_, List.List, List.[], List._∷_, List._++_, List.flatMap, List.Memᴰ·append-left, List.Memᴰ·append-right}
 use Prim.Native.Nat.{ℕ, _-_}
 use lib.{ListN.length, ListN.getD, Dec.eqb, Dec.leb}
 use borrow.Author.Tests.{eqb-true, leb-true}
@@ -9,7 +9,7 @@ use Rattle.semantics.specs.Reader.{Result, accepted, refused, times, counted, w
 use Rattle.semantics.specs.Formats.{readRuleSet, readSnapshot, records, readQuery, Input, ladder, WellFormedInput}
 use Rattle.semantics.specs.Domain.{firstOutside, spares, insert, ascending, mostVariables, domain}
 use Rattle.semantics.specs.{Fact.position, Fact.code, Fact.fact, Rounds.After, Contract.domainOf, Contract.FitsInput, Contract.CompletedInput}
-use Rattle.rows.specs.Rows.{Row, RowTrue, Verdict, LinesShown, LastShown, rows}
+use Rattle.rows.specs.Rows.{Row, RowTrue, Verdict, LinesShown, LastShown, rows, constantRows}
 use Rattle.semantics.proofs.{DomainFacts.member-true, DomainFacts.member-out, Verdict.verdict, Verdict.fits-whole, FormatsFacts.ladder-read}
 use Rattle.semantics.proofs.Evaluator.{when, both, every, sameList, sameRecord, assignments, compares, meetsAll, finds, takings, answers, callings, joined, byFacts, byRecords, byTest, byValues, byArguments, byRule, steps, following, dropKnown, newFacts, run, Run}
 use Rattle.semantics.proofs.Evaluation.{both-out, every-out, Done, run-done}
@@ -109,11 +109,15 @@ passed row e = by (ladder (row .book) (row .snapshot) (row .question)) refl e
     by (accepted i) is-read t = row-true row i is-read t
     by (refused n) is-read t = absurd (false≢true t)
 
--- the nine tests, computed
-rows-pass : every passes rows ≡ true
+-- the nine tests and our own, computed
+rows-pass : every passes (rows ++ constantRows) ≡ true
 unfolding digits digitsOf heapValues member times counted word readRuleSet readSnapshot records readQuery ladder firstOutside spares insert ascending mostVariables domain position code when both every sameList sameRecord assignments compares meetsAll finds takings answers callings joined byFacts byRecords byTest byValues byArguments byRule steps following dropKnown newFacts run flatMap sameBool result testRun testLines testLast testRead ways leave isEmpty isSome avoids exactly passes
 rows-pass = refl
 
 -- Each starred row is true: verdict, facts, rounds, lines, and the last fact that the paper gives.
 pub rows-true : (row : Row) → row among rows → RowTrue row
-rows-true row m = passed row (every-out passes rows rows-pass row m)
+rows-true row m = passed row (every-out passes (rows ++ constantRows) rows-pass row (Memᴰ·append-left constantRows m))
+
+-- So are those with constants.
+pub constant-rows-true : (row : Row) → row among constantRows → RowTrue row
+constant-rows-true row m = passed row (every-out passes (rows ++ constantRows) rows-pass row (Memᴰ·append-right rows m))

@@ -16,7 +16,7 @@ abbrev pub other : Rule
 other = record { head = 0; bound = 1; pures = differ ∷ []; points-to = []; calls = [] }
 
 abbrev pub others : RuleSet
-others = record { arities = 1 ∷ []; rules = other ∷ [] }
+others = record { arities = 1 ∷ []; constants = []; rules = other ∷ [] }
 
 pub none-without-spare : (called : List ℕ) (f : ℕ) → ¬ Ground others [] (upto 1) called f
 none-without-spare called f g =

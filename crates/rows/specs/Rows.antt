@@ -44,7 +44,7 @@ pub record RowTrue (row : Row) : Type 0 where
 -- Book S: P(a) where some b other than a has Q(a, b); Q(a, b) for all a and b, of no record.
 abbrev pub bookS : List ℕ
 bookS =
-    2 ∷ 1 ∷ 2 ∷ 2
+    2 ∷ 1 ∷ 2 ∷ 0 ∷ 2
     ∷ 0 ∷ 1 ∷ 1 ∷ 1 ∷ 1 ∷ 0 ∷ 0 ∷ 1 ∷ 1 ∷ 0 ∷ 1
     ∷ 1 ∷ 0 ∷ 0 ∷ 0 ∷ 0 ∷ []
 
@@ -63,4 +63,17 @@ rows =
     ∷ record { book = bookS; snapshot = 0 ∷ []; question = 0 ∷ 1 ∷ four 0; fits = true; facts = 12; rounds = 2; lines = 2; last = [] }
     ∷ record { book = house; snapshot = 1 ∷ node 10 0; question = asks 2 10 0; fits = true; facts = 9; rounds = 3; lines = 3; last = [] }
     ∷ record { book = house; snapshot = 1 ∷ node 10 0; question = asks 2 10 10; fits = false; facts = 9; rounds = 3; lines = 0; last = [] }
+    ∷ []
+
+-- Two rows of our own. Book C has the constants 1 and 9: P(a) if there is a record at a that holds the second. The first, which no rule
+-- names, is kept too, and the spare is another number: the kept values are 0, 1, 2, 9, 10, and 10 has position 4.
+abbrev pub bookC : List ℕ
+bookC =
+    1 ∷ 1 ∷ 2 ∷ (four 1 ++ (four 9
+    ++ (1 ∷ 0 ∷ 0 ∷ 0 ∷ 1 ∷ 0 ∷ 1 ∷ 129 ∷ 0 ∷ [])))
+
+abbrev pub constantRows : List Row
+constantRows =
+    record { book = bookC; snapshot = 1 ∷ node 10 9; question = 0 ∷ 1 ∷ four 10; fits = true; facts = 1; rounds = 1; lines = 1; last = 262145 ∷ [] }
+    ∷ record { book = bookC; snapshot = 1 ∷ node 10 1; question = 0 ∷ 1 ∷ four 10; fits = false; facts = 0; rounds = 0; lines = 0; last = [] }
     ∷ []

@@ -6,7 +6,7 @@ use native.Mathlib.Omega.{arith}
 use lib.{ListN.length, ListN.take, ListN.length-replicate, Seq.take-append-seam}
 use Rattle.semantics.specs.{Lists.zeros, Reader.Result, Formats.Input, Formats.ladder, Served.Served, Refusals.tooManyFacts}
 use Rattle.semantics.specs.Contract.{SomeFits, CertificatePart, MoreFactsThan, CompletedInput, FilledInput, padded, refusalReply, Answers, EngineCall, Decided}
-use Rattle.semantics.specs.Contract.{withoutPart, Finds, Found, Checks, CheckedFor}
+use Rattle.semantics.specs.Contract.{withoutPart, Found, Checks, CheckedFor}
 use Rattle.semantics.proofs.{Reached.completed-unique, Reached.more-facts, ContractLengths.lines-fit, ContractLengths.padded-length}
 use Rattle.semantics.proofs.ServedFacts.{OneOutcome, computed, served-both}
 use Rattle.semantics.specs.declared.{Reply.Reply, PartReply.PartReply}

@@ -2,7 +2,7 @@
 -- is known of what it gives; a chain of readers has the laws chained. With bytes below 256 every value is below 2 ^ 32.
 use mathlib.Core.{Bool.Bool, Bool.true, Bool.false, Path._≡_, Path.refl, Path.ap, Path._∙_, Logic.⊎-elim}
 use mathlib.Core.List.{List, [], _∷_, List·Memᴰ·head, List·Memᴰ·tail, List·Memᴰ·cases-cons, List·Memᴰ·not-nil, List·Memᴰ·append-cases}
-use Prim.Native.Nat.{ℕ, zero, suc, _+_, _≤_, _<_}
+use Prim.Native.Nat.{ℕ, zero, suc, _+_, _-_, _≤_, _<_}
 use native.Mathlib.Omega.{arith}
 use lib.{ListN.length, ListN.getD, Dec.eqb, Dec.leb, Dec.ltb}
 use borrow.Author.Tests.{eqb-true, leb-true, ltb-true}
@@ -10,8 +10,8 @@ use Rattle.semantics.specs.Lists.{_among_, digits}
 use Rattle.semantics.specs.RuleSet.{Term, var, fixed, Kind, Pure, PointsTo, Call, Rule, RuleSet, InScope, WellFormed, WellFormedRule}
 use Rattle.semantics.specs.Heap.{Record, Heap, Above, WellFormedHeap, heapValues}
 use Rattle.semantics.specs.Reader.{Got, got, fault, Reader, onward, _>>=_, give, ensure, byte, times, counted, word, Result, accepted, refused, all, andThen}
-use Rattle.semantics.specs.Formats.{isAddress, named, termOf, term, kindOf, kind, pure, atom, call, body, rule, arguments, predicates, ruleSet, readRuleSet, value, address, records, snapshot, readSnapshot, Query, query, readQuery, Input, ladder, WellFormedInput}
-use Rattle.semantics.proofs.Digits.{digits-below}
+use Rattle.semantics.specs.Formats.{isAddress, named, termOf, term, kindOf, kind, pure, atom, call, body, rule, arguments, predicates, constants, ruleSet, readRuleSet, value, address, records, snapshot, readSnapshot, Query, query, readQuery, Input, ladder, WellFormedInput}
+use Rattle.semantics.proofs.{Coding.getD-in, Digits.digits-below}
 
 -- a refusal's number
 abbrev pub Number : ℕ → Type 0
@@ -94,19 +94,6 @@ module _ (B : ℕ → Type 0) where
   named-gives : (n : ℕ) → Gives (λ b. b < n) (named n)
   named-gives n = chain B (λ b. b < n) (byte _) _ (byte-gives _ (omega arith)) λ b _. ensure-gives (λ c. c < n) (ltb b n) _ b (omega arith) (ltb-true b n)
 
-  abbrev Scoped : ℕ → Term → Type 0
-  Scoped n t = InScope (0 ∷ []) n t
-
-  termOf-gives : (n b : ℕ) → Gives (Scoped n) (termOf n b)
-  termOf-gives n b = by (eqb b 255)
-    where
-      by : (c : Bool) → Gives (Scoped n) (elim c as (λ _. Reader Term) [ true ↦ give (fixed 0) | false ↦ ensure (ltb b n) 3 (var b) ])
-      by true = give-gives (Scoped n) (fixed 0) (List·Memᴰ·head refl)
-      by false = ensure-gives (Scoped n) (ltb b n) 3 (var b) (omega arith) (ltb-true b n)
-
-  term-gives : (n : ℕ) → Gives (Scoped n) (term n)
-  term-gives n = chain B (Scoped n) (byte 1) _ (byte-gives 1 (omega arith)) λ b _. termOf-gives n b
-
   abbrev AnyKind : Kind → Type 0
   AnyKind k = Unit {0}
 
@@ -118,58 +105,84 @@ module _ (B : ℕ → Type 0) where
   kind-gives : Gives AnyKind kind
   kind-gives = chain B AnyKind (byte 1) _ (byte-gives 1 (omega arith)) λ b _. kindOf-gives b
 
-  record PureRead (n : ℕ) (p : Pure) : Type 0 where
-    pub left : Scoped n (p .left)
-    pub right : Scoped n (p .right)
+  -- ---- over the constants of the rule set
 
-  pure-gives : (n : ℕ) → Gives (PureRead n) (pure n)
-  pure-gives n =
-      chain AnyKind (PureRead n) kind _ kind-gives λ k _.
-      chain (Scoped n) (PureRead n) (term n) _ (term-gives n) λ l hl.
-      chain (Scoped n) (PureRead n) (term n) _ (term-gives n) λ r hr.
-      give-gives (PureRead n) _ (record { left = hl; right = hr })
+  module _ (constants : List ℕ) where
+    abbrev Scoped : ℕ → Term → Type 0
+    Scoped n t = InScope (0 ∷ constants) n t
 
-  record AtomRead (n : ℕ) (c : PointsTo) : Type 0 where
-    pub address : c .address < n
-    pub fields : Few (Scoped n) 4 (c .fields)
+    termOf-gives : (n b : ℕ) → Gives (Scoped n) (termOf constants n b)
+    termOf-gives n b = by (eqb b 255) (ltb b 128)
+      where
+        by : (c d : Bool)
+            → Gives (Scoped n) (elim c as (λ _. Reader Term) [
+              | true ↦ give (fixed 0)
+              | false ↦ elim d as (λ _. Reader Term) [
+                | true ↦ ensure (ltb b n) 3 (var b)
+                | false ↦ ensure (ltb (b - 128) (length constants)) 3 (fixed (getD constants (b - 128) 0))
+              ]
+            ])
+        by true d = give-gives (Scoped n) (fixed 0) (List·Memᴰ·head refl)
+        by false true = ensure-gives (Scoped n) (ltb b n) 3 (var b) (omega arith) (ltb-true b n)
+        by false false =
+            ensure-gives (Scoped n) (ltb (b - 128) (length constants)) 3 (fixed (getD constants (b - 128) 0)) (omega arith)
+            (λ e. List·Memᴰ·tail (getD-in constants (b - 128) (ltb-true (b - 128) (length constants) e)))
 
-  atom-gives : (n : ℕ) → Gives (AtomRead n) (atom n)
-  atom-gives n =
-      chain (λ a. a < n) (AtomRead n) (named n) _ (named-gives n) λ a ha.
-      chain (Few (Scoped n) 4) (AtomRead n) (counted 1 2 4 (term n)) _ (counted-gives (Scoped n) 1 2 4 (term n) (omega arith) (omega arith) (term-gives n)) λ ts ht.
-      give-gives (AtomRead n) _ (record { address = ha; fields = ht })
+    term-gives : (n : ℕ) → Gives (Scoped n) (term constants n)
+    term-gives n = chain B (Scoped n) (byte 1) _ (byte-gives 1 (omega arith)) λ b _. termOf-gives n b
 
-  record CallRead (arities : List ℕ) (n : ℕ) (c : Call) : Type 0 where
-    pub named : c .predicate < length arities
-    pub arguments : Entries (Scoped n) (getD arities (c .predicate) 0) (c .arguments)
+    record PureRead (n : ℕ) (p : Pure) : Type 0 where
+      pub left : Scoped n (p .left)
+      pub right : Scoped n (p .right)
 
-  call-gives : (arities : List ℕ) (n : ℕ) → Gives (CallRead arities n) (call arities n)
-  call-gives arities n =
-      chain (λ a. a < length arities) (CallRead arities n) (named (length arities)) _ (named-gives (length arities)) λ p hp.
-      chain (Entries (Scoped n) (getD arities p 0)) (CallRead arities n) (times (getD arities p 0) (term n)) _ (times-gives (Scoped n) (getD arities p 0) (term n) (term-gives n)) λ ts ht.
-      give-gives (CallRead arities n) _ (record { named = hp; arguments = ht })
+    pure-gives : (n : ℕ) → Gives (PureRead n) (pure constants n)
+    pure-gives n =
+        chain AnyKind (PureRead n) kind _ kind-gives λ k _.
+        chain (Scoped n) (PureRead n) (term constants n) _ (term-gives n) λ l hl.
+        chain (Scoped n) (PureRead n) (term constants n) _ (term-gives n) λ r hr.
+        give-gives (PureRead n) _ (record { left = hl; right = hr })
 
-  record RuleRead (arities : List ℕ) (r : Rule) : Type 0 where
-    pub head : r .head < length arities
-    pub few : getD arities (r .head) 0 + r .bound ≤ 8
-    pub pures : Few (PureRead (getD arities (r .head) 0 + r .bound)) 8 (r .pures)
-    pub points-to : Few (AtomRead (getD arities (r .head) 0 + r .bound)) 4 (r .points-to)
-    pub calls : Few (CallRead arities (getD arities (r .head) 0 + r .bound)) 3 (r .calls)
+    record AtomRead (n : ℕ) (c : PointsTo) : Type 0 where
+      pub address : c .address < n
+      pub fields : Few (Scoped n) 4 (c .fields)
 
-  body-gives : (arities : List ℕ) (h b n : ℕ) → h < length arities → n ≡ getD arities h 0 + b → n ≤ 8 → Gives (RuleRead arities) (body arities h b n)
-  body-gives arities h b n hh e l =
-      chain (Few (PureRead n) 8) (RuleRead arities) (counted 1 2 8 (pure n)) _ (counted-gives (PureRead n) 1 2 8 (pure n) (omega arith) (omega arith) (pure-gives n)) λ ps hp.
-      chain (Few (AtomRead n) 4) (RuleRead arities) (counted 1 2 4 (atom n)) _ (counted-gives (AtomRead n) 1 2 4 (atom n) (omega arith) (omega arith) (atom-gives n)) λ cs hc.
-      chain (Few (CallRead arities n) 3) (RuleRead arities) (counted 1 2 3 (call arities n)) _ (counted-gives (CallRead arities n) 1 2 3 (call arities n) (omega arith) (omega arith) (call-gives arities n)) λ ds hd.
-      give-gives (RuleRead arities) _ (record { head = hh; few = omega arith; pures = rw (← e) hp; points-to = rw (← e) hc; calls = rw (← e) hd })
+    atom-gives : (n : ℕ) → Gives (AtomRead n) (atom constants n)
+    atom-gives n =
+        chain (λ a. a < n) (AtomRead n) (named n) _ (named-gives n) λ a ha.
+        chain (Few (Scoped n) 4) (AtomRead n) (counted 1 2 4 (term constants n)) _ (counted-gives (Scoped n) 1 2 4 (term constants n) (omega arith) (omega arith) (term-gives n)) λ ts ht.
+        give-gives (AtomRead n) _ (record { address = ha; fields = ht })
 
-  rule-gives : (arities : List ℕ) → Gives (RuleRead arities) (rule arities)
-  rule-gives arities =
-      chain (λ a. a < length arities) (RuleRead arities) (named (length arities)) _ (named-gives (length arities)) λ h hh.
-      chain B (RuleRead arities) (byte 1) _ (byte-gives 1 (omega arith)) λ b _.
-      chain (λ n. (n ≡ getD arities h 0 + b) × (n ≤ 8)) (RuleRead arities) (ensure (leb (getD arities h 0 + b) 8) 2 (getD arities h 0 + b)) _
-      (ensure-gives (λ n. (n ≡ getD arities h 0 + b) × (n ≤ 8)) (leb (getD arities h 0 + b) 8) 2 (getD arities h 0 + b) (omega arith) (λ e. (refl, leb-true (getD arities h 0 + b) 8 e))) λ n hn.
-      body-gives arities h b n hh (hn .0) (hn .1)
+    record CallRead (arities : List ℕ) (n : ℕ) (c : Call) : Type 0 where
+      pub named : c .predicate < length arities
+      pub arguments : Entries (Scoped n) (getD arities (c .predicate) 0) (c .arguments)
+
+    call-gives : (arities : List ℕ) (n : ℕ) → Gives (CallRead arities n) (call arities constants n)
+    call-gives arities n =
+        chain (λ a. a < length arities) (CallRead arities n) (named (length arities)) _ (named-gives (length arities)) λ p hp.
+        chain (Entries (Scoped n) (getD arities p 0)) (CallRead arities n) (times (getD arities p 0) (term constants n)) _ (times-gives (Scoped n) (getD arities p 0) (term constants n) (term-gives n)) λ ts ht.
+        give-gives (CallRead arities n) _ (record { named = hp; arguments = ht })
+
+    record RuleRead (arities : List ℕ) (r : Rule) : Type 0 where
+      pub head : r .head < length arities
+      pub few : getD arities (r .head) 0 + r .bound ≤ 8
+      pub pures : Few (PureRead (getD arities (r .head) 0 + r .bound)) 8 (r .pures)
+      pub points-to : Few (AtomRead (getD arities (r .head) 0 + r .bound)) 4 (r .points-to)
+      pub calls : Few (CallRead arities (getD arities (r .head) 0 + r .bound)) 3 (r .calls)
+
+    body-gives : (arities : List ℕ) (h b n : ℕ) → h < length arities → n ≡ getD arities h 0 + b → n ≤ 8 → Gives (RuleRead arities) (body arities constants h b n)
+    body-gives arities h b n hh e l =
+        chain (Few (PureRead n) 8) (RuleRead arities) (counted 1 2 8 (pure constants n)) _ (counted-gives (PureRead n) 1 2 8 (pure constants n) (omega arith) (omega arith) (pure-gives n)) λ ps hp.
+        chain (Few (AtomRead n) 4) (RuleRead arities) (counted 1 2 4 (atom constants n)) _ (counted-gives (AtomRead n) 1 2 4 (atom constants n) (omega arith) (omega arith) (atom-gives n)) λ cs hc.
+        chain (Few (CallRead arities n) 3) (RuleRead arities) (counted 1 2 3 (call arities constants n)) _ (counted-gives (CallRead arities n) 1 2 3 (call arities constants n) (omega arith) (omega arith) (call-gives arities n)) λ ds hd.
+        give-gives (RuleRead arities) _ (record { head = hh; few = omega arith; pures = rw (← e) hp; points-to = rw (← e) hc; calls = rw (← e) hd })
+
+    rule-gives : (arities : List ℕ) → Gives (RuleRead arities) (rule arities constants)
+    rule-gives arities =
+        chain (λ a. a < length arities) (RuleRead arities) (named (length arities)) _ (named-gives (length arities)) λ h hh.
+        chain B (RuleRead arities) (byte 1) _ (byte-gives 1 (omega arith)) λ b _.
+        chain (λ n. (n ≡ getD arities h 0 + b) × (n ≤ 8)) (RuleRead arities) (ensure (leb (getD arities h 0 + b) 8) 2 (getD arities h 0 + b)) _
+        (ensure-gives (λ n. (n ≡ getD arities h 0 + b) × (n ≤ 8)) (leb (getD arities h 0 + b) 8) 2 (getD arities h 0 + b) (omega arith) (λ e. (refl, leb-true (getD arities h 0 + b) 8 e))) λ n hn.
+        body-gives arities h b n hh (hn .0) (hn .1)
 
   arguments-gives : Gives (λ a. a ≤ 4) arguments
   arguments-gives = chain B (λ a. a ≤ 4) (byte 1) _ (byte-gives 1 (omega arith)) λ b _. ensure-gives (λ a. a ≤ 4) (leb b 4) 2 b (omega arith) (leb-true b 4)
@@ -192,7 +205,7 @@ module _ (B : ℕ → Type 0) where
   small-entry (x ∷ xs) h zero = h x (List·Memᴰ·head refl)
   small-entry (x ∷ xs) h (suc i) = small-entry xs (λ y m. h y (List·Memᴰ·tail m)) i
 
-  rule-formed : (r : RuleSet) (one : Rule) → RuleRead (r .arities) one → WellFormedRule r one
+  rule-formed : (r : RuleSet) (one : Rule) → RuleRead (r .constants) (r .arities) one → WellFormedRule r one
   rule-formed r one w = record {
     head-named = w .head;
     variables-few = w .few;
@@ -209,19 +222,7 @@ module _ (B : ℕ → Type 0) where
     calls-scoped = λ c m t k. w .calls .each c m .arguments .each t k;
   }
 
-  rule-set-gives : Gives WellFormed ruleSet
-  rule-set-gives =
-      chain AritiesRead WellFormed predicates _ predicates-gives λ arities ha.
-      chain (Few (RuleRead arities) 16) WellFormed (counted 1 2 16 (rule arities)) _ (counted-gives (RuleRead arities) 1 2 16 (rule arities) (omega arith) (omega arith) (rule-gives arities)) λ rules hr.
-      give-gives WellFormed _ (record {
-        predicates-some = ha .some;
-        predicates-few = ha .few;
-        arguments-few = small-entry arities (ha .each);
-        rules-few = hr .few;
-        each = λ one m. rule-formed (record { arities = arities; rules = rules }) one (hr .each one m);
-      })
-
-  -- ---- the snapshot and the query, with what is known of values
+  -- ---- with what is known of values: constants and so the rule set, the snapshot, the query
 
   module _ (W : ℕ → Type 0) (known : Known B W) where
     word-gives : (short : ℕ) → Number short → Gives W (word short)
@@ -232,6 +233,28 @@ module _ (B : ℕ → Type 0) where
 
     value-gives : (short : ℕ) → Number short → Gives W (value short)
     value-gives short number = chain W W (word short) _ (word-gives short number) λ v p. give-gives W v p
+
+    record RuleSetRead (r : RuleSet) : Type 0 where
+      pub formed : WellFormed r
+      pub constants : Each W (r .constants)
+
+    rule-set-gives : Gives RuleSetRead ruleSet
+    rule-set-gives =
+        chain AritiesRead RuleSetRead predicates _ predicates-gives λ arities ha.
+        chain (Few W _) RuleSetRead constants _ (counted-gives W 1 2 _ (value 1) (omega arith) (omega arith) (value-gives 1 (omega arith))) λ cs hc.
+        chain (Few (RuleRead cs arities) 16) RuleSetRead (counted 1 2 16 (rule arities cs)) _
+        (counted-gives (RuleRead cs arities) 1 2 16 (rule arities cs) (omega arith) (omega arith) (rule-gives cs arities)) λ rules hr.
+        give-gives RuleSetRead _ (record {
+          formed = record {
+            predicates-some = ha .some;
+            predicates-few = ha .few;
+            arguments-few = small-entry arities (ha .each);
+            constants-few = hc .few;
+            rules-few = hr .few;
+            each = λ one m. rule-formed (record { arities = arities; constants = cs; rules = rules }) one (hr .each one m);
+          };
+          constants = hc .each;
+        })
 
     record AddressRead (low a : ℕ) : Type 0 where
       pub above : low < a
@@ -311,6 +334,7 @@ then-yields P Q next (refused n) h k = h
 -- what is known of what is accepted
 record LadderRead (W : ℕ → Type 0) (i : Input) : Type 0 where
   pub formed : WellFormedInput i
+  pub constants : Each W (i .ruleSet .constants)
   pub heap-values : Each W (heapValues (i .heap))
   pub query-values : Each W (i .values)
 
@@ -318,15 +342,16 @@ module _ (B W : ℕ → Type 0) (known : Known B W) where
   ladder-yields : (b s q : List ℕ) → Each B b → Each B s → Each B q → Yields (LadderRead W) (ladder b s q)
   unfolding ladder readRuleSet readSnapshot readQuery
   ladder-yields b s q eb es eq =
-      then-yields WellFormed (LadderRead W) _ (readRuleSet b) (all-yields B WellFormed _ (ruleSet b) (omega arith) (rule-set-gives B b eb)) λ r hr.
+      then-yields (RuleSetRead B W known) (LadderRead W) _ (readRuleSet b) (all-yields B (RuleSetRead B W known) _ (ruleSet b) (omega arith) (rule-set-gives B W known b eb)) λ r hr.
       then-yields (SnapshotRead B W known) (LadderRead W) _ (readSnapshot s) (all-yields B (SnapshotRead B W known) _ (snapshot s) (omega arith) (snapshot-gives B W known s es)) λ h hh.
       then-yields (QueryRead B W known (r .arities)) (LadderRead W) _ (readQuery (r .arities) q) (all-yields B (QueryRead B W known (r .arities)) _ (query (r .arities) q) (omega arith) (query-gives B W known (r .arities) q eq)) λ qu hq.
       record {
         formed = record {
-          valid = record { rules-formed = hr; heap-formed = hh .formed; values-few = omega (arith, hq .counted, hr .arguments-few (qu .predicate)) };
+          valid = record { rules-formed = hr .formed; heap-formed = hh .formed; values-few = omega (arith, hq .counted, hr .formed .arguments-few (qu .predicate)) };
           named = hq .named;
           counted = hq .counted;
         };
+        constants = hr .constants;
         heap-values = hh .values;
         query-values = hq .values;
       }
@@ -359,7 +384,8 @@ byte-known : Known Byte Value
 byte-known = record { word-known = λ bs e h. omega (arith, digits-below 256 4 bs (omega arith) (omega arith) h) }
 
 pub ladder-values : (b s q : List ℕ) → ((x : ℕ) → x among b → x < 256) → ((x : ℕ) → x among s → x < 256) → ((x : ℕ) → x among q → x < 256) → (i : Input) → ladder b s q ≡ accepted i
-    → ((v : ℕ) → v among heapValues (i .heap) → v < 4294967296) × ((v : ℕ) → v among i .values → v < 4294967296)
+    → ((v : ℕ) → v among i .ruleSet .constants → v < 4294967296) × ((v : ℕ) → v among heapValues (i .heap) → v < 4294967296)
+    × ((v : ℕ) → v among i .values → v < 4294967296)
 ladder-values b s q eb es eq i e =
     let h : LadderRead Value i = rw e at (ladder-yields Byte Value byte-known b s q eb es eq) in
-    (h .heap-values, h .query-values)
+    (h .constants, h .heap-values, h .query-values)

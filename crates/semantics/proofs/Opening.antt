@@ -1,6 +1,6 @@
 -- A certificate opens. From its first line on, each line gets a finished tree by hand, whose branches are the trees of the lines that it
 -- calls; the records are taken once each, since the subheaps that a line joins share none.
-use mathlib.Core.{Path._≡_, Path.refl, Path.sym, Path.ap, Path._∙_, List.List, List.[], List._∷_, List._++_, List.map, List.List·Memᴰ·head, List.List·Memᴰ·tail}
+use mathlib.Core.{Path._≡_, Path.refl, Path.ap, Path._∙_, List.List, List.[], List._∷_, List._++_, List.map, List.List·Memᴰ·head, List.List·Memᴰ·tail}
 use Prim.Native.Nat.{ℕ, zero, suc, _≤_, _<_}
 use native.Mathlib.Omega.{arith}
 use lib.ListN.{length}

@@ -1,9 +1,9 @@
--- Two plain rule sets, and for each of the three conditions a rule set that fails it and keeps the other two. The house book is not plain.
-use mathlib.Core.{Path._≡_, Path.refl, Path.sym, Path._∙_, Path.subst, Logic.⊎-elim, Logic.by-cases}
+-- Three plain rule sets, one of them with constants, and for each of the three conditions a rule set that fails it and keeps the other two. The house book is not plain.
+use mathlib.Core.{Path._≡_, Path.refl, Path.sym, Path._∙_, Path.subst, Logic.⊎-elim, Logic.by-cases, Logic._≢_}
 use mathlib.Core.List.{List, [], _∷_, cons≢nil, List·Memᴰ·head, List·Memᴰ·tail, List·Memᴰ·cases-cons, List·Memᴰ·not-nil}
 use Prim.Native.Nat.{ℕ, zero, suc, _<_}
 use native.Mathlib.{Omega.arith, Decide.decLt}
-use lib.ListN.{length, List·getD-append}
+use lib.ListN.{length, getD, List·getD-append}
 use Rattle.semantics.specs.{Lists._among_, Tree.Meets, Formats.readRuleSet, Contract.house}
 use Rattle.semantics.specs.Reader.{Result, accepted, refused, times, counted}
 use Rattle.semantics.specs.RuleSet.{Term, var, fixed, unequal, Pure, Rule, RuleSet, ruleOf}
@@ -26,7 +26,7 @@ longer pures = record {
 }
 
 abbrev pub segments : List Pure → RuleSet
-segments pures = record { arities = 2 ∷ []; rules = empty ∷ longer pures ∷ [] }
+segments pures = record { arities = 2 ∷ []; constants = []; rules = empty ∷ longer pures ∷ [] }
 
 abbrev pub differ : Pure
 differ = record { kind = unequal; left = var 0; right = var 1 }
@@ -96,7 +96,7 @@ abbrev bare : Rule
 bare = record { head = 1; bound = 0; pures = []; points-to = []; calls = [] }
 
 abbrev pub kinds : RuleSet
-kinds = record { arities = 1 ∷ 1 ∷ []; rules = tied ∷ bare ∷ [] }
+kinds = record { arities = 1 ∷ 1 ∷ []; constants = []; rules = tied ∷ bare ∷ [] }
 
 -- Every argument meets the conditions of both rules, which are of two predicates.
 pub kinds-plain : Plain kinds
@@ -131,10 +131,74 @@ kinds-plain = record {
     apart (suc i) (suc zero) l h = absurd (omega arith)
     apart i (suc (suc j)) l h = absurd (omega arith)
 
+-- ---- two constants, each the only argument of a rule, which has a record that holds the constant
+
+abbrev coded : ℕ → Rule
+coded code = record {
+  head = 0;
+  bound = 1;
+  pures = equals (var 0) (fixed code) ∷ equals (fixed code) (var 1) ∷ [];
+  points-to = record { address = 1; fields = fixed code ∷ [] } ∷ [];
+  calls = [];
+}
+
+abbrev pub codes : ℕ → ℕ → RuleSet
+codes x y = record { arities = 1 ∷ []; constants = x ∷ y ∷ []; rules = coded x ∷ coded y ∷ [] }
+
+module _ (x y : ℕ) where
+  each-coded : (P : Rule → Type 0) → ((code : ℕ) → P (coded code)) → (rule : Rule) → rule among codes x y .rules → P rule
+  each-coded P p rule m =
+      ⊎-elim (λ e. subst P (sym e) (p x))
+      (λ k. ⊎-elim (λ e. subst P (sym e) (p y)) (λ z. absurd (List·Memᴰ·not-nil z)) (List·Memᴰ·cases-cons k)) (List·Memᴰ·cases-cons m)
+
+  codes-consume : Consuming (codes x y)
+  codes-consume = each-coded Consumes (λ code h. absurd (h refl))
+
+  -- a constant fixes the variable that it is equal to
+  codes-fixed : VariablesFixed (codes x y)
+  codes-fixed = each-coded (AllFixed (codes x y)) (λ code v h.
+      by-cases (decLt v 1) (λ l. Fixed.of-head l)
+      (λ n.
+      let e : v ≡ 1 = omega arith in
+      subst (λ (u : ℕ). Fixed (codes x y) (coded code) (var u)) (sym e) (Fixed.to-right (List·Memᴰ·tail (List·Memᴰ·head refl)) Fixed.fixed-value)))
+
+  -- the first argument is the constant wherever the conditions are met
+  code-met : (code : ℕ) (arguments : List ℕ) → length arguments ≡ 1 → Allows (coded code) arguments → getD arguments 0 0 ≡ code
+  code-met code arguments counted a =
+      sym (List·getD-append arguments (a .bound) 0 0 (omega arith)) ∙ a .meets (equals (var 0) (fixed code)) (List·Memᴰ·head refl)
+
+  -- Two different constants are unequal.
+  pub codes-plain : x ≢ y → Plain (codes x y)
+  codes-plain differ = record { consuming = codes-consume; all-fixed = codes-fixed; exclusive = apart }
+    where
+      apart : (i j : ℕ) → i < j → j < 2 → Exclude (codes x y) (ruleOf (codes x y) i) (ruleOf (codes x y) j)
+      apart i zero l h = absurd (omega arith)
+      apart zero (suc zero) l h = λ e arguments counted a b. differ (sym (code-met x arguments counted a) ∙ code-met y arguments counted b)
+      apart (suc i) (suc zero) l h = absurd (omega arith)
+      apart i (suc (suc j)) l h = absurd (omega arith)
+
+-- Only their values matter: the same constant twice is one.
+pub codes-alone : (x : ℕ) → Consuming (codes x x) × VariablesFixed (codes x x) × (¬ Exclusive (codes x x))
+codes-alone x = (
+  codes-consume x x,
+  codes-fixed x x,
+  λ exclusive. exclusive 0 1 (omega arith) (omega arith) refl (x ∷ []) refl allowed allowed,
+)
+  where
+    allowed : Allows (coded x) (x ∷ [])
+    allowed = record {
+      bound = x ∷ [];
+      bound-counted = refl;
+      meets = λ pure m.
+          ⊎-elim (λ e. subst (Meets (x ∷ x ∷ [])) (sym e) refl)
+          (λ k. ⊎-elim (λ e. subst (Meets (x ∷ x ∷ [])) (sym e) refl) (λ z. absurd (List·Memᴰ·not-nil z)) (List·Memᴰ·cases-cons k))
+          (List·Memᴰ·cases-cons m);
+    }
+
 -- ---- rule sets of one rule, for a predicate with one argument
 
 abbrev pub single : Rule → RuleSet
-single rule = record { arities = 1 ∷ []; rules = rule ∷ [] }
+single rule = record { arities = 1 ∷ []; constants = []; rules = rule ∷ [] }
 
 only : (P : Rule → Type 0) (rule : Rule) → P rule → (other : Rule) → other among rule ∷ [] → P other
 only P rule p other m = ⊎-elim (λ e. subst P (sym e) p) (λ z. absurd (List·Memᴰ·not-nil z)) (List·Memᴰ·cases-cons m)

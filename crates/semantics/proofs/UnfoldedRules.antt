@@ -93,6 +93,7 @@ module _ (ruleSet : RuleSet) where
     predicates-some = w .predicates-some;
     predicates-few = w .predicates-few;
     arguments-few = w .arguments-few;
+    constants-few = w .constants-few;
     rules-few = omega (arith, w .rules-few, unfolded-length (ruleSet .rules));
     each = λ rule m. formed rule (w .each rule (unfolded-exactly rule .0 m .0));
   }

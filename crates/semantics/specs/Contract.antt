@@ -204,7 +204,7 @@ otherSections bytes = drop (sectionLength bytes) (drop 2 bytes)
 -- The house book H.
 abbrev pub house : List ℕ
 house =
-    3 ∷ 2 ∷ 1 ∷ 2 ∷ 4
+    3 ∷ 2 ∷ 1 ∷ 2 ∷ 0 ∷ 4
     ∷ 0 ∷ 0 ∷ 1 ∷ 0 ∷ 0 ∷ 1 ∷ 0 ∷ 0
     ∷ 0 ∷ 1 ∷ 0 ∷ 1 ∷ 0 ∷ 1 ∷ 2 ∷ 1 ∷ 0 ∷ 2 ∷ 1
     ∷ 1 ∷ 1 ∷ 0 ∷ 1 ∷ 0 ∷ 1 ∷ 1 ∷ 1 ∷ 0 ∷ 1 ∷ 0

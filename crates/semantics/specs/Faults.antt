@@ -6,7 +6,7 @@ use lib.ListN.{take}
 -- Book L: the list segment, which is the first two rules of H.
 abbrev pub bookL : List ℕ
 bookL =
-    1 ∷ 2 ∷ 2
+    1 ∷ 2 ∷ 0 ∷ 2
     ∷ 0 ∷ 0 ∷ 1 ∷ 0 ∷ 0 ∷ 1 ∷ 0 ∷ 0
     ∷ 0 ∷ 1 ∷ 0 ∷ 1 ∷ 0 ∷ 1 ∷ 2 ∷ 1 ∷ 0 ∷ 2 ∷ 1 ∷ []
 
@@ -37,12 +37,19 @@ inQuestion bytes n = record { book = bookL; snapshot = 0 ∷ []; question = byte
 abbrev pub faults : List Fault
 faults =
     inBook [] 1
-    ∷ inBook (take 21 bookL) 1
+    ∷ inBook (take 22 bookL) 1
+    ∷ inBook (1 ∷ 2 ∷ []) 1
+    ∷ inBook (1 ∷ 2 ∷ 2 ∷ (four 7 ++ (7 ∷ 0 ∷ 0 ∷ []))) 1
     ∷ inBook (0 ∷ 0 ∷ []) 2
-    ∷ inBook (1 ∷ 2 ∷ 1 ∷ 0 ∷ 7 ∷ 0 ∷ 0 ∷ 0 ∷ []) 2
-    ∷ inBook (1 ∷ 2 ∷ 1 ∷ 1 ∷ []) 3
-    ∷ inBook (1 ∷ 1 ∷ 1 ∷ 0 ∷ 0 ∷ 1 ∷ 2 ∷ []) 3
-    ∷ inBook (1 ∷ 1 ∷ 1 ∷ 0 ∷ 0 ∷ 0 ∷ 1 ∷ 255 ∷ 0 ∷ 0 ∷ []) 3
+    ∷ inBook (1 ∷ 2 ∷ 9 ∷ []) 2
+    ∷ inBook (1 ∷ 2 ∷ 0 ∷ 1 ∷ 0 ∷ 7 ∷ 0 ∷ 0 ∷ 0 ∷ []) 2
+    ∷ inBook (1 ∷ 2 ∷ 0 ∷ 1 ∷ 1 ∷ []) 3
+    ∷ inBook (1 ∷ 1 ∷ 0 ∷ 1 ∷ 0 ∷ 0 ∷ 1 ∷ 2 ∷ []) 3
+    ∷ inBook (1 ∷ 1 ∷ 0 ∷ 1 ∷ 0 ∷ 0 ∷ 1 ∷ 0 ∷ 128 ∷ []) 3
+    ∷ inBook (1 ∷ 1 ∷ 1 ∷ (four 7 ++ (1 ∷ 0 ∷ 0 ∷ 1 ∷ 0 ∷ 128 ∷ 129 ∷ []))) 3
+    ∷ inBook (1 ∷ 1 ∷ 1 ∷ (four 7 ++ (1 ∷ 0 ∷ 0 ∷ 1 ∷ 0 ∷ 1 ∷ []))) 3
+    ∷ inBook (1 ∷ 1 ∷ 0 ∷ 1 ∷ 0 ∷ 0 ∷ 0 ∷ 1 ∷ 255 ∷ 0 ∷ 0 ∷ []) 3
+    ∷ inBook (1 ∷ 1 ∷ 1 ∷ (four 7 ++ (1 ∷ 0 ∷ 0 ∷ 0 ∷ 1 ∷ 128 ∷ 0 ∷ 0 ∷ []))) 3
     ∷ inBook (bookL ++ (0 ∷ [])) 4
     ∷ inSnapshot (1 ∷ 10 ∷ 0 ∷ 0 ∷ []) 5
     ∷ inSnapshot (17 ∷ []) 6

@@ -1,7 +1,7 @@
 -- The formats and the ladder (paper 01: the book, the snapshot, the question; refusals 1 to 9): what the bytes say, or the number of
 -- the first fault met, front to back.
 use mathlib.Core.{Bool.Bool, Bool.true, Bool.false, List.List, List.[], List._∷_, Path._≡_}
-use Prim.Native.Nat.{ℕ, zero, suc, _+_, _≤_, _<_}
+use Prim.Native.Nat.{ℕ, zero, suc, _+_, _-_, _≤_, _<_}
 use lib.{ListN.length, ListN.getD, Dec.eqb, Dec.leb, Dec.ltb}
 use Rattle.semantics.specs.RuleSet.{Term, var, fixed, Kind, equal, unequal, Pure, PointsTo, Call, Rule, RuleSet, arity, WellFormed}
 use Rattle.semantics.specs.Heap.{Heap, WellFormedHeap}
@@ -10,7 +10,7 @@ use Rattle.semantics.specs.Reader.{fault, Reader, _>>=_, give, ensure, b
 
 -- ---- values
 
--- How the four bytes of a field or of a query's value are read as a value: as they are.
+-- How the four bytes of a field, of a query's value or of a constant are read as a value: as they are.
 abbrev pub asRead : ℕ → ℕ
 asRead v = v
 
@@ -27,14 +27,21 @@ named n = do
   b ← byte bookEnds
   ensure (ltb b n) bookName b
 
--- What the byte b names as a term of a rule with n variables: nil (255), or a variable.
-abbrev pub termOf : ℕ → ℕ → Reader Term
-termOf n b = elim (eqb b 255) [ true ↦ give (fixed 0) | false ↦ ensure (ltb b n) bookName (var b) ]
+-- What the byte b names as a term of a rule with n variables: nil (255), below 128 a variable, from 128 on a constant.
+abbrev pub termOf : List ℕ → ℕ → ℕ → Reader Term
+termOf constants n b =
+    elim (eqb b 255) [
+      | true ↦ give (fixed 0)
+      | false ↦ elim (ltb b 128) [
+        | true ↦ ensure (ltb b n) bookName (var b)
+        | false ↦ ensure (ltb (b - 128) (length constants)) bookName (fixed (getD constants (b - 128) 0))
+      ]
+    ]
 
-abbrev pub term : ℕ → Reader Term
-term n = do
+abbrev pub term : List ℕ → ℕ → Reader Term
+term constants n = do
   b ← byte bookEnds
-  termOf n b
+  termOf constants n b
 
 abbrev pub kindOf : ℕ → Reader Kind
 kindOf zero = give equal
@@ -46,40 +53,40 @@ kind = do
   b ← byte bookEnds
   kindOf b
 
-abbrev pub pure : ℕ → Reader Pure
-pure n = do
+abbrev pub pure : List ℕ → ℕ → Reader Pure
+pure constants n = do
   k ← kind
-  l ← term n
-  r ← term n
+  l ← term constants n
+  r ← term constants n
   give (record { kind = k; left = l; right = r })
 
--- Only a variable may stand for the address: 255, which is nil, names nothing there.
-abbrev pub atom : ℕ → Reader PointsTo
-atom n = do
+-- Only a variable may stand for the address: what is nil or a constant elsewhere names nothing there.
+abbrev pub atom : List ℕ → ℕ → Reader PointsTo
+atom constants n = do
   a ← named n
-  ts ← counted bookEnds bookCount 4 (term n)
+  ts ← counted bookEnds bookCount 4 (term constants n)
   give (record { address = a; fields = ts })
 
-abbrev pub call : List ℕ → ℕ → Reader Call
-call arities n = do
+abbrev pub call : (arities constants : List ℕ) → ℕ → Reader Call
+call arities constants n = do
   p ← named (length arities)
-  ts ← times (getD arities p 0) (term n)
+  ts ← times (getD arities p 0) (term constants n)
   give (record { predicate = p; arguments = ts })
 
-abbrev pub body : List ℕ → ℕ → ℕ → ℕ → Reader Rule
-body arities h b n = do
-  ps ← counted bookEnds bookCount 8 (pure n)
-  cs ← counted bookEnds bookCount 4 (atom n)
-  ds ← counted bookEnds bookCount 3 (call arities n)
+abbrev pub body : (arities constants : List ℕ) → ℕ → ℕ → ℕ → Reader Rule
+body arities constants h b n = do
+  ps ← counted bookEnds bookCount 8 (pure constants n)
+  cs ← counted bookEnds bookCount 4 (atom constants n)
+  ds ← counted bookEnds bookCount 3 (call arities constants n)
   give (record { head = h; bound = b; pures = ps; points-to = cs; calls = ds })
 
 -- Head and bound variables are at most 8 together.
-abbrev pub rule : List ℕ → Reader Rule
-rule arities = do
+abbrev pub rule : (arities constants : List ℕ) → Reader Rule
+rule arities constants = do
   h ← named (length arities)
   b ← byte bookEnds
   n ← ensure (leb (getD arities h 0 + b) 8) bookCount (getD arities h 0 + b)
-  body arities h b n
+  body arities constants h b n
 
 -- A predicate's number of arguments.
 abbrev pub arguments : Reader ℕ
@@ -95,11 +102,16 @@ predicates = do
   n ← ensure (leb l 8) bookCount l
   times n arguments
 
+-- There are at most 8 constants, each of four bytes.
+abbrev pub constants : Reader (List ℕ)
+constants = counted bookEnds bookCount 8 (value bookEnds)
+
 abbrev pub ruleSet : Reader RuleSet
 ruleSet = do
   arities ← predicates
-  rules ← counted bookEnds bookCount 16 (rule arities)
-  give (record { arities = arities; rules = rules })
+  cs ← constants
+  rules ← counted bookEnds bookCount 16 (rule arities cs)
+  give (record { arities = arities; constants = cs; rules = rules })
 
 unfoldable pub readRuleSet : List ℕ → Result RuleSet
 readRuleSet bytes = all bookLonger (ruleSet bytes)

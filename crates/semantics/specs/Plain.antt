@@ -1,4 +1,4 @@
--- Plain rule sets (paper 02, order 2; source 000, section 5): three conditions, each under its own name.
+-- Plain rule sets (paper 02, orders 2 and 4; source 000, section 5): three conditions, each under its own name.
 use mathlib.Core.{List.List, List.[], List._++_, Path._≡_, Logic._≢_}
 use Prim.Native.Nat.{ℕ, _<_}
 use lib.ListN.{length}
@@ -20,7 +20,7 @@ Consuming ruleSet = (rule : Rule) → rule among ruleSet .rules → Consumes rul
 abbrev pub equals : Term → Term → Pure
 equals left right = record { kind = equal; left = left; right = right }
 
--- Which terms of a rule are fixed: a fixed value (nil), the head's variables, and what is reached from these, along an equality either way
+-- Which terms of a rule are fixed: a fixed value (nil or a constant), the head's variables, and what is reached from these, along an equality either way
 -- round or from the address of a points-to atom to a field. How the rule is written decides this: a contradiction by itself fixes nothing.
 pub data Fixed (ruleSet : RuleSet) (rule : Rule) : Term → Type 0 where
   fixed-value : {x : ℕ} → Fixed ruleSet rule (fixed x)

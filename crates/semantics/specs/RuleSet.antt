@@ -4,7 +4,7 @@ use Prim.Native.Nat.{ℕ, _+_, _≤_, _<_}
 use lib.ListN.{length, getD}
 use Rattle.semantics.specs.Lists.{_among_}
 
--- A term of a rule: one of its variables, by number, or a fixed value. Nil is `fixed 0`.
+-- A term of a rule: one of its variables, by number, or a fixed value. Nil is `fixed 0`, and a constant is `fixed` with its value.
 pub data Term : Type 0 where
   var : ℕ → Term
   fixed : ℕ → Term
@@ -37,9 +37,10 @@ pub record Rule : Type 0 where
   pub points-to : List PointsTo
   pub calls : List Call
 
--- A rule set: each predicate's number of arguments, and the rules.
+-- A rule set: each predicate's number of arguments, the constants, and the rules.
 pub record RuleSet : Type 0 where
   pub arities : List ℕ
+  pub constants : List ℕ
   pub rules : List Rule
 
 abbrev pub arity : RuleSet → ℕ → ℕ
@@ -55,9 +56,9 @@ blankRule = record { head = 0; bound = 0; pures = []; points-to = []; calls = []
 abbrev pub ruleOf : RuleSet → ℕ → Rule
 ruleOf ruleSet number = getD (ruleSet .rules) number blankRule
 
--- The values that a fixed term may have: nil alone.
+-- The values that a fixed term may have: nil, and the constants, used or not. Some may be equal: only the values matter.
 abbrev pub fixedValues : RuleSet → List ℕ
-fixedValues ruleSet = 0 ∷ []
+fixedValues ruleSet = 0 ∷ ruleSet .constants
 
 -- A term of a rule with n variables: a variable below n, or one of the fixed values.
 abbrev pub InScope : List ℕ → ℕ → Term → Type 0
@@ -87,5 +88,6 @@ pub record WellFormed (ruleSet : RuleSet) : Type 0 where
   pub predicates-some : 1 ≤ length (ruleSet .arities)
   pub predicates-few : length (ruleSet .arities) ≤ 8
   pub arguments-few : (predicate : ℕ) → arity ruleSet predicate ≤ 4
+  pub constants-few : length (ruleSet .constants) ≤ 8
   pub rules-few : length (ruleSet .rules) ≤ 16
   pub each : (rule : Rule) → rule among ruleSet .rules → WellFormedRule ruleSet rule

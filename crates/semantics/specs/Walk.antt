@@ -17,7 +17,7 @@ unfoldedRules [] = []
 unfoldedRules (rule ∷ rules) = elim (unfolded (rule .calls) (rule .points-to)) [ true ↦ rule ∷ unfoldedRules rules | false ↦ unfoldedRules rules ]
 
 abbrev pub unfoldedOnly : RuleSet → RuleSet
-unfoldedOnly ruleSet = record { arities = ruleSet .arities; rules = unfoldedRules (ruleSet .rules) }
+unfoldedOnly ruleSet = record { arities = ruleSet .arities; constants = ruleSet .constants; rules = unfoldedRules (ruleSet .rules) }
 
 -- ---- the walk
 

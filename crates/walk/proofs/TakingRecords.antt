@@ -1,22 +1,22 @@
 -- The record that a points-to atom asks for is the one at its address, so that one look decides; and atom after atom, what the rest takes.
-use mathlib.Core.{Bool.true, Bool.false, Bool.false≢true, Path._≡_, Path.refl, Path.sym, Path.ap, Path._∙_, Path.subst, List.List, List.[], List._∷_, Logic._≢_}
-use Prim.Native.Nat.{ℕ, _+_, _^_, _≤_, _<_}
+use mathlib.Core.{Bool.true, Bool.false, Bool.false≢true, Path._≡_, Path.sym, Path.ap, Path._∙_, List.List, List.[], List._∷_, Logic._≢_}
+use Prim.Native.Nat.{ℕ, _+_, _≤_, _<_}
 use native.Mathlib.Omega.{arith}
 use lib.{ListN.length, ListN.getD, ListN.drop}
 use Rattle.semantics.specs.{Heap.Record, Heap.Heap, Heap.WellFormedHeap, Heap.Ordered, Heap.blank, RuleSet.PointsTo, Tree.asked}
 use Rattle.semantics.proofs.{Addresses.address-once, WalkLoops.AtomsLeft, WalkLoops.atoms-stop, WalkLoops.atoms-next}
 use Rattle.words.proofs.Tabulate.{tabulate-drop, tabulate-past}
-use Rattle.block.specs.Layout.{atomIn, ruleIn, heapIn, atomCount, atomPlace, atomAddress, recordCount, recordAddress}
+use Rattle.block.specs.Layout.{atomAs, ruleAs, heapIn, atomCount, atomPlace, atomAddress, recordCount, recordAddress}
 use Rattle.block.proofs.HeapInBlock.{heap-count, record-is}
 use Rattle.finding.specs.Records.{RecordAt}
 use Rattle.finding.proofs.Addresses.{is-nowhere}
 use Rattle.semantics.specs.WalkOutcome.{TakesFreely}
 use Rattle.walk.specs.Taking.{TakesFree}
 
-module _ (rules : List ℕ) (rule g : ℕ) (σ heap : List ℕ) where
+module _ (value : ℕ → ℕ) (rules : List ℕ) (rule g : ℕ) (σ heap : List ℕ) where
   -- record k is as atom g asks
   abbrev pub Wanted : ℕ → Type 0
-  Wanted k = getD (heapIn heap) k blank ≡ asked σ (atomIn rules (atomPlace rule g))
+  Wanted k = getD (heapIn heap) k blank ≡ asked σ (atomAs value rules (atomPlace rule g))
 
   wanted-address : (k : ℕ) → k < length (heapIn heap) → Wanted k → recordAddress heap k ≡ getD σ (atomAddress rules rule g) 0
   wanted-address k h e = ap (λ (r : Record). r .address) (record-is heap k (omega (arith, heap-count heap)) ∙ e)
@@ -35,12 +35,12 @@ module _ (rules : List ℕ) (rule g : ℕ) (σ heap : List ℕ) where
 
 -- ---- one atom after the other
 
-pub atom-here : (rules : List ℕ) (rule g : ℕ) → g < atomCount rules rule
-    → drop g (ruleIn rules rule .points-to) ≡ atomIn rules (atomPlace rule g) ∷ drop (g + 1) (ruleIn rules rule .points-to)
-atom-here rules rule g h = tabulate-drop (atomCount rules rule) (λ i. atomIn rules (atomPlace rule i)) g h
+pub atom-here : (value : ℕ → ℕ) (rules : List ℕ) (rule g : ℕ) → g < atomCount rules rule
+    → drop g (ruleAs value rules rule .points-to) ≡ atomAs value rules (atomPlace rule g) ∷ drop (g + 1) (ruleAs value rules rule .points-to)
+atom-here value rules rule g h = tabulate-drop (atomCount rules rule) (λ i. atomAs value rules (atomPlace rule i)) g h
 
-pub atoms-past : (rules : List ℕ) (rule g : ℕ) → atomCount rules rule ≤ g → drop g (ruleIn rules rule .points-to) ≡ []
-atoms-past rules rule g h = tabulate-past (atomCount rules rule) (λ i. atomIn rules (atomPlace rule i)) g h
+pub atoms-past : (value : ℕ → ℕ) (rules : List ℕ) (rule g : ℕ) → atomCount rules rule ≤ g → drop g (ruleAs value rules rule .points-to) ≡ []
+atoms-past value rules rule g h = tabulate-past (atomCount rules rule) (λ i. atomAs value rules (atomPlace rule i)) g h
 
 module _ {heap : Heap} {σ : List ℕ} {atoms : List PointsTo} {mask g now : ℕ} (left : AtomsLeft heap σ atoms mask g now) {atom : PointsTo}
     (here : drop g atoms ≡ atom ∷ drop (g + 1) atoms) where

@@ -1,33 +1,42 @@
 -- A rule tried with the values found for its variables: it is chosen if all are found, its pure conditions are met and its points-to atoms
 -- take free records; otherwise a plain rule set leaves no way to choose it.
 use mathlib.Core.{Bool.Bool, Bool.true, Bool.false, Bool.false≢true, Path._≡_, Path.refl, Path.sym, Path.ap, Path._∙_, Path.subst, Logic._≢_, Logic.inl, Logic.inr, Logic.⊎-elim, Logic.by-cases, Logic._⊎_}
-use mathlib.Core.{Option.some, List.List, List.[], List._∷_, List._++_, List.cons≢nil, List.List·Memᴰ·head, List.List·Memᴰ·tail, List.List·Memᴰ·eq-of-singleton}
-use Prim.Native.Nat.{ℕ, _+_, _≤_, _<_}
+use mathlib.Core.{Option.some, List.List, List.[], List._∷_, List._++_, List.List·Memᴰ·head, List.List·Memᴰ·tail, List.List·Memᴰ·cases-cons}
+use Prim.Native.Nat.{ℕ, _+_, _-_, _≤_, _<_}
 use native.Mathlib.{Omega.arith, Decide.ℕ-discrete, Decide.decLt}
 use lib.{ListN.length, ListN.getD, ListN.take, ListN.drop, ListN.length-drop, ListN.take-append-drop, Seq.getD-take, Seq.length-take-le, Seq.ext-getD}
-use Rattle.semantics.specs.RuleSet.{PointsTo, Pure, WellFormed, fixedValues, variables, arity}
-use Rattle.semantics.specs.{Lists._among_, Heap.Heap, Heap.blank, Tree.Meets, Tree.asked, Tree.Takes, Plain.Plain, Walk.unfolded, WalkOutcome.TakesFreely, WalkOutcome.Chosen, Found.Agrees, Found.AllFound}
+use Rattle.semantics.specs.RuleSet.{PointsTo, Pure, fixedValues, variables, arity}
+use Rattle.semantics.specs.{Lists._among_, Heap.Heap, Tree.Meets, Tree.asked, Tree.Takes, Walk.unfolded, WalkOutcome.TakesFreely, WalkOutcome.Chosen, Found.Agrees, Found.AllFound}
 use Rattle.semantics.proofs.{UnfoldedRules.consumes-in, WalkChoice.chosen-by, WalkChoice.left-open, WalkChoice.not-met, WalkChoice.not-free}
 use Rattle.words.proofs.Tabulate.{tabulate-length, tabulate-in, tabulate-out}
-use Rattle.block.specs.Layout.{pureIn, atomIn, callIn, ruleIn, ruleSetIn, heapIn, ruleCount, rulePlace, arityIn, headIn, headArity, boundIn, pureCount, atomCount, callCount, purePlace, atomPlace, callPlace}
-use Rattle.block.specs.Ready.{variablesIn, Formed}
-use Rattle.block.proofs.{RuleInBlock.rule-listed, RuleInBlock.rules-are, ReadyBlocks.head-arity-is, ReadyBlocks.variables-are, ReadyBlocks.ready-rule, Values.StartsWith, Values.meets-same, Values.asked-same}
+use Rattle.block.specs.Layout.{pureAs, atomAs, callAs, ruleAs, ruleSetAs, ruleSetRead, fixedIn, constantsIn, heapIn, ruleCount, rulePlace, arityIn, headIn, headArity, boundIn, pureCount, atomCount, callCount, purePlace, atomPlace, callPlace}
+use Rattle.block.specs.Ready.{variablesIn}
+use Rattle.block.proofs.{RuleAs.rule-listed, RuleAs.rules-are, RuleAs.head-arity-is, RuleAs.variables-are, RuleAs.ready-rule, Values.StartsWith, Values.meets-same, Values.asked-same}
 use Rattle.finding.specs.{Values.openEntry, Values.opens, Values.knownIn, Values.Counted, Found.FoundIn}
 use Rattle.finding.proofs.{Opens.opens-none, Opens.opens-some, Known.entry-has, Known.open-entry, Known.known-long, Known.known-agrees}
 use Rattle.walk.specs.Taking.{PuresMet, TakesAll, TakesEach}
-use Rattle.walk.specs.Walk.{Readable, RulePlace, Serves, argumentsIn, valuesIn, ChosenAt, NotChosen, Attempts}
+use Rattle.walk.specs.Walk.{RulesReadable, Readable, RulePlace, Serves, argumentsIn, valuesIn, ChosenAt, NotChosen, Attempts}
 
 -- ---- the rule at a place
 
-pub place-of : (rules heap : List ℕ) → Readable rules heap → (r : ℕ) → r < ruleCount rules → RulePlace rules (rulePlace r)
-place-of rules heap readable r h =
-    let well = readable .rules-formed .each (ruleIn rules (rulePlace r)) (rule-listed rules r h) in
+-- every fixed value is below the bound
+fixed-fits : (given rules : List ℕ) → RulesReadable given rules → (v : ℕ) → v among fixedValues (ruleSetRead given rules) → v < openEntry
+unfolding ruleSetAs
+fixed-fits given rules read v m = ⊎-elim (λ e. omega (arith, e)) (read .constants-fit v) (List·Memᴰ·cases-cons m)
+
+pub place-of : (given rules heap : List ℕ) → Readable given rules heap → (r : ℕ) → r < ruleCount rules → RulePlace given rules (rulePlace r)
+place-of given rules heap readable r h =
+    let formed = readable .rules-read .formed in
+    let well = formed .each (ruleAs (fixedIn given) rules (rulePlace r)) (rule-listed (fixedIn given) (constantsIn given) rules r h) in
     record {
       number = r;
       below = h;
       is-place = refl;
       well = well;
-      formed = record { inside = omega (arith, rules-are rules, readable .rules-formed .rules-few); ready = ready-rule rules (readable .rules-formed) (rulePlace r) well };
+      formed = record {
+        inside = omega (arith, rules-are (fixedIn given) (constantsIn given) rules, formed .rules-few);
+        ready = ready-rule (fixedIn given) (constantsIn given) rules formed (rulePlace r) well (λ b l m. fixed-fits given rules (readable .rules-read) (fixedIn given (b - 128)) m);
+      };
     }
 
 empty-long : {A : Type 0} (xs : List A) → length xs ≡ 0 → xs ≡ []
@@ -37,64 +46,64 @@ empty-long (x ∷ xs) e = absurd (omega arith)
 long-empty : {A : Type 0} (xs : List A) → xs ≡ [] → length xs ≡ 0
 long-empty {A} xs e = ap (λ (l : List A). length l) e
 
-module _ {rules : List ℕ} {rule : ℕ} (place : RulePlace rules rule) where
-  listed : ruleIn rules rule among ruleSetIn rules .rules
-  listed = rw (place .is-place) (rule-listed rules (place .number) (place .below))
+module _ {given rules : List ℕ} {rule : ℕ} (place : RulePlace given rules rule) where
+  listed : ruleAs (fixedIn given) rules rule among ruleSetRead given rules .rules
+  listed = rw (place .is-place) (rule-listed (fixedIn given) (constantsIn given) rules (place .number) (place .below))
 
-  calls-long : length (ruleIn rules rule .calls) ≡ callCount rules rule
-  calls-long = tabulate-length (callCount rules rule) (λ i. callIn rules (callPlace rule i))
+  calls-long : length (ruleAs (fixedIn given) rules rule .calls) ≡ callCount rules rule
+  calls-long = tabulate-length (callCount rules rule) (λ i. callAs (fixedIn given) rules (callPlace rule i))
 
-  atoms-long : length (ruleIn rules rule .points-to) ≡ atomCount rules rule
-  atoms-long = tabulate-length (atomCount rules rule) (λ i. atomIn rules (atomPlace rule i))
+  atoms-long : length (ruleAs (fixedIn given) rules rule .points-to) ≡ atomCount rules rule
+  atoms-long = tabulate-length (atomCount rules rule) (λ i. atomAs (fixedIn given) rules (atomPlace rule i))
 
   -- it is unfolded where it serves
-  serves-unfolded : {predicate : ℕ} → Serves rules rule predicate → unfolded (ruleIn rules rule .calls) (ruleIn rules rule .points-to) ≡ true
+  serves-unfolded : {predicate : ℕ} → Serves rules rule predicate → unfolded (ruleAs (fixedIn given) rules rule .calls) (ruleAs (fixedIn given) rules rule .points-to) ≡ true
   serves-unfolded s =
-      consumes-in (ruleIn rules rule .calls) (ruleIn rules rule .points-to)
+      consumes-in (ruleAs (fixedIn given) rules rule .calls) (ruleAs (fixedIn given) rules rule .points-to)
       (λ some none.
-      ⊎-elim (λ e. some (empty-long (ruleIn rules rule .calls) (calls-long ∙ e))) (λ l. absurd (omega (arith, atoms-long, long-empty (ruleIn rules rule .points-to) none)))
+      ⊎-elim (λ e. some (empty-long (ruleAs (fixedIn given) rules rule .calls) (calls-long ∙ e))) (λ l. absurd (omega (arith, atoms-long, long-empty (ruleAs (fixedIn given) rules rule .points-to) none)))
       (s .unfolded))
 
   -- a plain rule set has none that can be chosen and does not serve
-  pub not-served : (heap : List ℕ) {predicate : ℕ} (arguments : List ℕ) {mask : ℕ} → ¬ Serves rules rule predicate → NotChosen rules heap predicate arguments mask (ruleIn rules rule)
+  pub not-served : (heap : List ℕ) {predicate : ℕ} (arguments : List ℕ) {mask : ℕ} → ¬ Serves rules rule predicate → NotChosen given rules heap predicate arguments mask (ruleAs (fixedIn given) rules rule)
   not-served heap arguments n plain c =
       n (record {
         heads = sym (c .heads);
         unfolded = by-cases (ℕ-discrete (callCount rules rule) 0) (λ e. inl e)
             (λ z. by-cases (ℕ-discrete (atomCount rules rule) 0)
-            (λ e. absurd (plain .consuming (ruleIn rules rule) listed (λ q. z (sym calls-long ∙ long-empty (ruleIn rules rule .calls) q)) (empty-long (ruleIn rules rule .points-to) (atoms-long ∙ e))))
+            (λ e. absurd (plain .consuming (ruleAs (fixedIn given) rules rule) listed (λ q. z (sym calls-long ∙ long-empty (ruleAs (fixedIn given) rules rule .calls) q)) (empty-long (ruleAs (fixedIn given) rules rule .points-to) (atoms-long ∙ e))))
             (λ e. inr (omega arith)));
       })
 
 -- ---- the values of its variables are the first of eight
 
-module _ {rules : List ℕ} (formed : WellFormed (ruleSetIn rules)) {rule : ℕ} (place : RulePlace rules rule) {values : List ℕ} (known : Counted values 0) where
-  scope : variables (ruleSetIn rules) (ruleIn rules rule) ≡ variablesIn rules rule
-  scope = variables-are rules formed rule (place .well)
+module _ {given rules : List ℕ} (read : RulesReadable given rules) {rule : ℕ} (place : RulePlace given rules rule) {values : List ℕ} (known : Counted values 0) where
+  scope : variables (ruleSetRead given rules) (ruleAs (fixedIn given) rules rule) ≡ variablesIn rules rule
+  scope = variables-are (fixedIn given) (constantsIn given) rules (read .formed) rule (place .well)
 
   values-long : length (valuesIn rules rule values) ≡ variablesIn rules rule
   values-long = length-take-le (variablesIn rules rule) values (omega (arith, known .eight, place .formed .ready .variables-few))
 
-  pub starts : StartsWith (fixedValues (ruleSetIn rules)) openEntry (variables (ruleSetIn rules) (ruleIn rules rule)) (valuesIn rules rule values) values
+  pub starts : StartsWith (fixedValues (ruleSetRead given rules)) openEntry (variables (ruleSetRead given rules) (ruleAs (fixedIn given) rules rule)) (valuesIn rules rule values) values
   starts = record {
-    fixed-below = λ w m. omega (arith, List·Memᴰ·eq-of-singleton m);
+    fixed-below = fixed-fits given rules read;
     at = λ i h. sym (getD-take (variablesIn rules rule) values i 0 (omega (arith, scope)));
     below = λ i h. omega (arith, getD-take (variablesIn rules rule) values i 0 (omega (arith, scope)), opens-none values (sym (known .is)) i);
   }
 
-  pures-met : PuresMet rules rule values → (pure : Pure) → pure among ruleIn rules rule .pures → Meets (valuesIn rules rule values) pure
+  pures-met : PuresMet (fixedIn given) rules rule values → (pure : Pure) → pure among ruleAs (fixedIn given) rules rule .pures → Meets (valuesIn rules rule values) pure
   pures-met met pure m =
-      let (k, h, e) = tabulate-out (pureCount rules rule) (λ i. pureIn rules (purePlace rule i)) pure m in
+      let (k, h, e) = tabulate-out (pureCount rules rule) (λ i. pureAs (fixedIn given) rules (purePlace rule i)) pure m in
       let met-here : Meets values pure = rw e (met k h) in
       rw (meets-same starts pure (place .well .pures-left pure m) (place .well .pures-right pure m)) at met-here
 
-  met-pures : ((pure : Pure) → pure among ruleIn rules rule .pures → Meets (valuesIn rules rule values) pure) → PuresMet rules rule values
+  met-pures : ((pure : Pure) → pure among ruleAs (fixedIn given) rules rule .pures → Meets (valuesIn rules rule values) pure) → PuresMet (fixedIn given) rules rule values
   met-pures met k h =
-      let pure = pureIn rules (purePlace rule k) in
-      let m = tabulate-in (pureCount rules rule) (λ i. pureIn rules (purePlace rule i)) k h in
+      let pure = pureAs (fixedIn given) rules (purePlace rule k) in
+      let m = tabulate-in (pureCount rules rule) (λ i. pureAs (fixedIn given) rules (purePlace rule i)) k h in
       rw (meets-same starts pure (place .well .pures-left pure m) (place .well .pures-right pure m)) (met pure m)
 
-  asks-same : (atom : PointsTo) → atom among ruleIn rules rule .points-to → asked values atom ≡ asked (valuesIn rules rule values) atom
+  asks-same : (atom : PointsTo) → atom among ruleAs (fixedIn given) rules rule .points-to → asked values atom ≡ asked (valuesIn rules rule values) atom
   asks-same atom m = asked-same starts atom (place .well .atoms-address atom m) (place .well .atoms-fields atom m)
 
 -- atoms that ask for the same records take the same
@@ -109,16 +118,16 @@ freely-as same t = record { indices = t .indices; takes = takes-as same (t .take
 
 -- ---- what trying it comes to
 
-module _ {rules heap : List ℕ} (readable : Readable rules heap) {rule : ℕ} (place : RulePlace rules rule) {predicate : ℕ} (serves : Serves rules rule predicate)
-    {arguments : List ℕ} (given : Counted arguments 0) {values : List ℕ} (found : FoundIn rules rule heap arguments values) where
+module _ {given rules heap : List ℕ} (readable : Readable given rules heap) {rule : ℕ} (place : RulePlace given rules rule) {predicate : ℕ} (serves : Serves rules rule predicate)
+    {arguments : List ℕ} (whole : Counted arguments 0) {values : List ℕ} (found : FoundIn given rules rule heap arguments values) where
   head-same : arityIn rules predicate ≡ headArity rules rule
   head-same = ap (arityIn rules) (sym (serves .heads))
 
-  found-for : AllFound (ruleSetIn rules) (heapIn heap) (ruleIn rules rule) (argumentsIn rules predicate arguments) (knownIn values (variablesIn rules rule))
+  found-for : AllFound (ruleSetRead given rules) (heapIn heap) (ruleAs (fixedIn given) rules rule) (argumentsIn rules predicate arguments) (knownIn values (variablesIn rules rule))
   found-for = rw head-same (found .is)
 
   -- a variable is open
-  pub not-found : {mask : ℕ} → opens values ≢ 0 → length values ≡ 8 → NotChosen rules heap predicate arguments mask (ruleIn rules rule)
+  pub not-found : {mask : ℕ} → opens values ≢ 0 → length values ≡ 8 → NotChosen given rules heap predicate arguments mask (ruleAs (fixedIn given) rules rule)
   not-found n eight plain c =
       let (v, h, o) = opens-some values n in
       by-cases (decLt v (variablesIn rules rule))
@@ -130,38 +139,38 @@ module _ {rules heap : List ℕ} (readable : Readable rules heap) {rule : ℕ} (
     few = omega (arith, known .eight, place .formed .ready .variables-few)
 
     long : length (valuesIn rules rule values) ≡ length (knownIn values (variablesIn rules rule))
-    long = values-long (readable .rules-formed) place known ∙ sym (known-long values (variablesIn rules rule) few)
+    long = values-long (readable .rules-read) place known ∙ sym (known-long values (variablesIn rules rule) few)
 
     agrees : Agrees (knownIn values (variablesIn rules rule)) (valuesIn rules rule values)
     agrees =
-        known-agrees values (variablesIn rules rule) few (valuesIn rules rule values) (values-long (readable .rules-formed) place known)
+        known-agrees values (variablesIn rules rule) few (valuesIn rules rule values) (values-long (readable .rules-read) place known)
         (λ v h l. getD-take (variablesIn rules rule) values v 0 h)
 
     -- a pure condition is not met
-    pub not-met-values : {mask : ℕ} → ¬ PuresMet rules rule values → NotChosen rules heap predicate arguments mask (ruleIn rules rule)
-    not-met-values n plain = not-met plain found-for (valuesIn rules rule values) long agrees (λ met. n (met-pures (readable .rules-formed) place known met))
+    pub not-met-values : {mask : ℕ} → ¬ PuresMet (fixedIn given) rules rule values → NotChosen given rules heap predicate arguments mask (ruleAs (fixedIn given) rules rule)
+    not-met-values n plain = not-met plain found-for (valuesIn rules rule values) long agrees (λ met. n (met-pures (readable .rules-read) place known met))
 
     -- the points-to atoms take no free records
-    pub not-free-values : {mask : ℕ} → ((after : ℕ) → ¬ TakesFreely (heapIn heap) values (ruleIn rules rule .points-to) mask after) → NotChosen rules heap predicate arguments mask (ruleIn rules rule)
+    pub not-free-values : {mask : ℕ} → ((after : ℕ) → ¬ TakesFreely (heapIn heap) values (ruleAs (fixedIn given) rules rule .points-to) mask after) → NotChosen given rules heap predicate arguments mask (ruleAs (fixedIn given) rules rule)
     not-free-values n plain =
-        not-free plain found-for (valuesIn rules rule values) long agrees (λ after t. n after (freely-as (asks-same (readable .rules-formed) place known) t))
+        not-free plain found-for (valuesIn rules rule values) long agrees (λ after t. n after (freely-as (asks-same (readable .rules-read) place known) t))
 
     -- the head's arguments are its first values
     heads-are : argumentsIn rules predicate arguments ≡ take (arityIn rules predicate) (valuesIn rules rule values)
     heads-are =
         let arity = arityIn rules predicate in
         let least : arity ≤ variablesIn rules rule = omega (arith, head-same) in
-        let counted = length-take-le arity arguments (omega (arith, given .eight, place .formed .ready .head-arity, head-same)) in
-        ext-getD 0 (take arity arguments) (take arity (valuesIn rules rule values)) (counted ∙ sym (length-take-le arity (valuesIn rules rule values) (omega (arith, values-long (readable .rules-formed) place known))))
+        let counted = length-take-le arity arguments (omega (arith, whole .eight, place .formed .ready .head-arity, head-same)) in
+        ext-getD 0 (take arity arguments) (take arity (valuesIn rules rule values)) (counted ∙ sym (length-take-le arity (valuesIn rules rule values) (omega (arith, values-long (readable .rules-read) place known))))
         (λ v h.
         let l : v < arity = omega (arith, counted) in
         let is : getD values v 0 ≡ getD (take arity arguments) v 0 = entry-has values (variablesIn rules rule) v (getD (take arity arguments) v 0) (omega arith) (found-for .heads v h) .1 in
         sym is ∙ sym (getD-take (variablesIn rules rule) values v 0 (omega arith)) ∙ sym (getD-take arity (valuesIn rules rule values) v 0 l))
 
-    counted : length (argumentsIn rules predicate arguments) ≡ arity (ruleSetIn rules) (headIn rules rule)
+    counted : length (argumentsIn rules predicate arguments) ≡ arity (ruleSetRead given rules) (headIn rules rule)
     counted =
-        length-take-le (arityIn rules predicate) arguments (omega (arith, given .eight, place .formed .ready .head-arity, head-same))
-        ∙ head-same ∙ sym (head-arity-is rules (readable .rules-formed) rule (place .well))
+        length-take-le (arityIn rules predicate) arguments (omega (arith, whole .eight, place .formed .ready .head-arity, head-same))
+        ∙ head-same ∙ sym (head-arity-is (fixedIn given) (constantsIn given) rules (readable .rules-read .formed) rule (place .well))
 
     abbrev bound : List ℕ
     bound = drop (arityIn rules predicate) (valuesIn rules rule values)
@@ -170,34 +179,34 @@ module _ {rules heap : List ℕ} (readable : Readable rules heap) {rule : ℕ} (
     joined = ap (λ (l : List ℕ). l ++ bound) heads-are ∙ take-append-drop (arityIn rules predicate) (valuesIn rules rule values)
 
     bound-counted : length bound ≡ boundIn rules rule
-    bound-counted = omega (arith, length-drop (arityIn rules predicate) (valuesIn rules rule values), values-long (readable .rules-formed) place known, head-same)
+    bound-counted = omega (arith, length-drop (arityIn rules predicate) (valuesIn rules rule values), values-long (readable .rules-read) place known, head-same)
 
     -- it is chosen
-    pub chosen-values : {mask after : ℕ} → PuresMet rules rule values → TakesFreely (heapIn heap) values (ruleIn rules rule .points-to) mask after
-        → ChosenAt rules rule heap predicate arguments mask values after
+    pub chosen-values : {mask after : ℕ} → PuresMet (fixedIn given) rules rule values → TakesFreely (heapIn heap) values (ruleAs (fixedIn given) rules rule .points-to) mask after
+        → ChosenAt given rules rule heap predicate arguments mask values after
     chosen-values {mask} {after} met t = record {
       place = place;
       all-known = known;
-      chosen = subst (λ (σ : List ℕ). Chosen (ruleSetIn rules) (heapIn heap) mask predicate (argumentsIn rules predicate arguments) (ruleIn rules rule) σ after) joined
+      chosen = subst (λ (σ : List ℕ). Chosen (ruleSetRead given rules) (heapIn heap) mask predicate (argumentsIn rules predicate arguments) (ruleAs (fixedIn given) rules rule) σ after) joined
           (chosen-by bound (listed place) (serves-unfolded place serves) (sym (serves .heads)) counted bound-counted
-          (λ pure m. subst (λ (σ : List ℕ). Meets σ pure) (sym joined) (pures-met (readable .rules-formed) place known met pure m))
-          (subst (λ (σ : List ℕ). TakesFreely (heapIn heap) σ (ruleIn rules rule .points-to) mask after) (sym joined)
-          (freely-as (λ atom m. sym (asks-same (readable .rules-formed) place known atom m)) t)));
+          (λ pure m. subst (λ (σ : List ℕ). Meets σ pure) (sym joined) (pures-met (readable .rules-read) place known met pure m))
+          (subst (λ (σ : List ℕ). TakesFreely (heapIn heap) σ (ruleAs (fixedIn given) rules rule .points-to) mask after) (sym joined)
+          (freely-as (λ atom m. sym (asks-same (readable .rules-read) place known atom m)) t)));
     }
 
     -- so the taking of records decides
-    pub attempts-take : {mask after : ℕ} {ok : Bool} → PuresMet rules rule values → TakesEach rules rule values heap mask ok after
-        → Attempts rules rule heap predicate arguments mask values ok after
+    pub attempts-take : {mask after : ℕ} {ok : Bool} → PuresMet (fixedIn given) rules rule values → TakesEach (fixedIn given) rules rule values heap mask ok after
+        → Attempts given rules rule heap predicate arguments mask values ok after
     attempts-take met (TakesAll.taken e t) = Attempts.chosen e (chosen-values met t)
     attempts-take met (TakesAll.stuck e n) = Attempts.nothing e (not-free-values n)
 
 -- ---- an attempt's answer
 
-module _ {rules : List ℕ} {rule : ℕ} {heap : List ℕ} {predicate : ℕ} {arguments : List ℕ} {mask : ℕ} {values : List ℕ} {after : ℕ} where
-  pub attempt-chosen : {ok : Bool} → Attempts rules rule heap predicate arguments mask values ok after → ok ≡ true → ChosenAt rules rule heap predicate arguments mask values after
+module _ {given rules : List ℕ} {rule : ℕ} {heap : List ℕ} {predicate : ℕ} {arguments : List ℕ} {mask : ℕ} {values : List ℕ} {after : ℕ} where
+  pub attempt-chosen : {ok : Bool} → Attempts given rules rule heap predicate arguments mask values ok after → ok ≡ true → ChosenAt given rules rule heap predicate arguments mask values after
   attempt-chosen (Attempts.chosen e c) t = c
   attempt-chosen (Attempts.nothing e n) t = absurd (false≢true (sym e ∙ t))
 
-  pub attempt-nothing : {ok : Bool} → Attempts rules rule heap predicate arguments mask values ok after → ok ≡ false → NotChosen rules heap predicate arguments mask (ruleIn rules rule)
+  pub attempt-nothing : {ok : Bool} → Attempts given rules rule heap predicate arguments mask values ok after → ok ≡ false → NotChosen given rules heap predicate arguments mask (ruleAs (fixedIn given) rules rule)
   attempt-nothing (Attempts.chosen e c) t = absurd (false≢true (sym t ∙ e))
   attempt-nothing (Attempts.nothing e n) t = n

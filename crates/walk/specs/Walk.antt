@@ -1,27 +1,36 @@
 -- The walk over the decoded blocks: what is asked of them, the choice of a rule, its calls, and what comes of a predicate.
 use mathlib.Core.{Bool.Bool, Bool.true, Bool.false, List.List, Logic._⊎_, Option.Option, Option.none, Option.some, Path._≡_}
-use Prim.Native.Nat.{ℕ, _<_}
+use Prim.Native.Nat.{ℕ, _≤_, _<_}
 use lib.ListN.{length, take}
-use Rattle.semantics.specs.{Heap.WellFormedHeap, RuleSet.Rule, RuleSet.WellFormed, RuleSet.WellFormedRule, Tree.valuesOf, Plain.Plain}
+use Rattle.semantics.specs.{Lists._among_, Heap.WellFormedHeap, RuleSet.Rule, RuleSet.WellFormed, RuleSet.WellFormedRule, Tree.valuesOf, Plain.Plain}
 use Rattle.semantics.specs.WalkOutcome.{WalkOutcome, Chosen, Choosable}
-use Rattle.block.specs.Layout.{ruleIn, callIn, ruleSetIn, heapIn, ruleCount, arityIn, rulePlace, headIn, atomCount, callCount, callPlace, callPredicate, ruleSetSize}
-use Rattle.block.specs.Ready.{variablesIn, Formed}
-use Rattle.finding.specs.Values.{Counted}
+use Rattle.block.specs.Layout.{ruleAs, callAs, ruleSetRead, constantCount, fixedIn, constantsIn, heapIn, ruleCount, arityIn, rulePlace, headIn, atomCount, callCount, callPlace, callPredicate, ruleSetSize}
+use Rattle.block.specs.Ready.{variablesIn, FormedRead}
+use Rattle.finding.specs.Values.{openEntry, Counted}
 use Rattle.walk.specs.declared.Choice.{Choice}
 
--- The blocks hold a rule set and a heap that were read.
-pub record Readable (rules heap : List ℕ) : Type 0 where
+-- Every constant is below the bound of values.
+abbrev pub ConstantsFit : List ℕ → Type 0
+ConstantsFit given = (v : ℕ) → v among constantsIn given → v < openEntry
+
+-- The blocks hold a rule set that was read, with its constants; and a heap.
+pub record RulesReadable (given rules : List ℕ) : Type 0 where
+  pub formed : WellFormed (ruleSetRead given rules)
+  pub constants-few : constantCount given ≤ 8
+  pub constants-fit : ConstantsFit given
+
+pub record Readable (given rules heap : List ℕ) : Type 0 where
   pub rules-long : length rules ≡ ruleSetSize
-  pub rules-formed : WellFormed (ruleSetIn rules)
+  pub rules-read : RulesReadable given rules
   pub heap-formed : WellFormedHeap (heapIn heap)
 
 -- The place of a rule of the block.
-pub record RulePlace (rules : List ℕ) (rule : ℕ) : Type 0 where
+pub record RulePlace (given rules : List ℕ) (rule : ℕ) : Type 0 where
   pub number : ℕ
   pub below : number < ruleCount rules
   pub is-place : rule ≡ rulePlace number
-  pub well : WellFormedRule (ruleSetIn rules) (ruleIn rules rule)
-  pub formed : Formed rules rule
+  pub well : WellFormedRule (ruleSetRead given rules) (ruleAs (fixedIn given) rules rule)
+  pub formed : FormedRead given rules rule
 
 -- The rule is for the predicate; and if it has calls, it has a points-to atom.
 pub record Serves (rules : List ℕ) (rule predicate : ℕ) : Type 0 where
@@ -39,38 +48,38 @@ valuesIn rules rule values = take (variablesIn rules rule) values
 -- ---- the choice of a rule
 
 -- The rule at a place is chosen for the predicate: with these values of its variables, and this mask afterwards.
-pub record ChosenAt (rules : List ℕ) (rule : ℕ) (heap : List ℕ) (predicate : ℕ) (arguments : List ℕ) (mask : ℕ) (values : List ℕ) (after : ℕ) : Type 0 where
-  pub place : RulePlace rules rule
+pub record ChosenAt (given rules : List ℕ) (rule : ℕ) (heap : List ℕ) (predicate : ℕ) (arguments : List ℕ) (mask : ℕ) (values : List ℕ) (after : ℕ) : Type 0 where
+  pub place : RulePlace given rules rule
   pub all-known : Counted values 0
-  pub chosen : Chosen (ruleSetIn rules) (heapIn heap) mask predicate (argumentsIn rules predicate arguments) (ruleIn rules rule)
+  pub chosen : Chosen (ruleSetRead given rules) (heapIn heap) mask predicate (argumentsIn rules predicate arguments) (ruleAs (fixedIn given) rules rule)
       (valuesIn rules rule values) after
 
 -- In a plain rule set the rule cannot be chosen.
-abbrev pub NotChosen : List ℕ → List ℕ → ℕ → List ℕ → ℕ → Rule → Type 0
-NotChosen rules heap predicate arguments mask rule =
-    Plain (ruleSetIn rules) → ¬ Choosable (ruleSetIn rules) (heapIn heap) mask predicate (argumentsIn rules predicate arguments) rule
+abbrev pub NotChosen : (given rules heap : List ℕ) → ℕ → List ℕ → ℕ → Rule → Type 0
+NotChosen given rules heap predicate arguments mask rule =
+    Plain (ruleSetRead given rules) → ¬ Choosable (ruleSetRead given rules) (heapIn heap) mask predicate (argumentsIn rules predicate arguments) rule
 
 -- One rule was tried.
-pub data Attempts (rules : List ℕ) (rule : ℕ) (heap : List ℕ) (predicate : ℕ) (arguments : List ℕ) (mask : ℕ) (values : List ℕ) (ok : Bool) (after : ℕ)
+pub data Attempts (given rules : List ℕ) (rule : ℕ) (heap : List ℕ) (predicate : ℕ) (arguments : List ℕ) (mask : ℕ) (values : List ℕ) (ok : Bool) (after : ℕ)
     : Type 0 where
-  chosen : ok ≡ true → ChosenAt rules rule heap predicate arguments mask values after
-      → Attempts rules rule heap predicate arguments mask values ok after
-  nothing : ok ≡ false → NotChosen rules heap predicate arguments mask (ruleIn rules rule)
-      → Attempts rules rule heap predicate arguments mask values ok after
+  chosen : ok ≡ true → ChosenAt given rules rule heap predicate arguments mask values after
+      → Attempts given rules rule heap predicate arguments mask values ok after
+  nothing : ok ≡ false → NotChosen given rules heap predicate arguments mask (ruleAs (fixedIn given) rules rule)
+      → Attempts given rules rule heap predicate arguments mask values ok after
 
 -- A rule is chosen, or none can be.
-pub data Chooses (rules heap : List ℕ) (predicate : ℕ) (arguments : List ℕ) (mask : ℕ) (values : List ℕ) (r : Choice) : Type 0 where
-  chosen : r .ok ≡ true → ChosenAt rules (r .rule) heap predicate arguments mask values (r .mask)
-      → Chooses rules heap predicate arguments mask values r
-  nothing : r .ok ≡ false → ((rule : Rule) → NotChosen rules heap predicate arguments mask rule)
-      → Chooses rules heap predicate arguments mask values r
+pub data Chooses (given rules heap : List ℕ) (predicate : ℕ) (arguments : List ℕ) (mask : ℕ) (values : List ℕ) (r : Choice) : Type 0 where
+  chosen : r .ok ≡ true → ChosenAt given rules (r .rule) heap predicate arguments mask values (r .mask)
+      → Chooses given rules heap predicate arguments mask values r
+  nothing : r .ok ≡ false → ((rule : Rule) → NotChosen given rules heap predicate arguments mask rule)
+      → Chooses given rules heap predicate arguments mask values r
 
 -- ---- calls
 
 -- The arguments of call c of a rule with these values for its variables.
-pub record CallsWith (rules : List ℕ) (rule c : ℕ) (values arguments : List ℕ) : Type 0 where
+pub record CallsWith (given rules : List ℕ) (rule c : ℕ) (values arguments : List ℕ) : Type 0 where
   pub all-known : Counted arguments 0
-  pub are-values : argumentsIn rules (callPredicate rules rule c) arguments ≡ valuesOf (valuesIn rules rule values) (callIn rules (callPlace rule c) .arguments)
+  pub are-values : argumentsIn rules (callPredicate rules rule c) arguments ≡ valuesOf (valuesIn rules rule values) (callAs (fixedIn given) rules (callPlace rule c) .arguments)
 
 -- ---- a predicate
 
@@ -79,5 +88,5 @@ answer true mask = some mask
 answer false mask = none
 
 -- What the walk of a predicate from a mask gives.
-pub record WalksFrom (rules heap : List ℕ) (fuel predicate : ℕ) (arguments : List ℕ) (mask : ℕ) (ok : Bool) (after : ℕ) : Type 0 where
-  pub outcome : WalkOutcome (ruleSetIn rules) (heapIn heap) fuel predicate (argumentsIn rules predicate arguments) mask (answer ok after)
+pub record WalksFrom (given rules heap : List ℕ) (fuel predicate : ℕ) (arguments : List ℕ) (mask : ℕ) (ok : Bool) (after : ℕ) : Type 0 where
+  pub outcome : WalkOutcome (ruleSetRead given rules) (heapIn heap) fuel predicate (argumentsIn rules predicate arguments) mask (answer ok after)

@@ -4,6 +4,7 @@ use super::Taken;
 use super::taking::pures_hold;
 use super::taking::take;
 use block::HeapBlock;
+use block::QueryBlock;
 use block::RuleBlock;
 use block::atom_count;
 use block::call_count;
@@ -17,13 +18,12 @@ ghost use mathlib.Core.Bool.{Bool};
 ghost use Prim.Native.Nat.{_<_};
 ghost use Rattle.words.specs.Told.{Told};
 ghost use Rattle.block.specs.Layout.{predicateCount};
-ghost use Rattle.block.specs.Ready.{Formed};
-ghost use Rattle.finding.specs.Values.{Counted};
+ghost use Rattle.finding.specs.Values.{Counted, Shaped};
 ghost use Rattle.walk.specs.Walk.{Readable, RulePlace, Serves, Attempts, Chooses};
 
 // Whether a rule is for a predicate, and may be unfolded: with calls, it has a points-to atom.
 fn serves(rules: &RuleBlock, rule: usize, predicate: usize) -> bool
-    requires { ⌜ Formed (now rules) rule ⌝ }
+    requires { ⌜ Shaped (now rules) rule ⌝ }
     ensures { λ (r : Bool). ⌜ Told r (Serves (now (rules .entry)) rule predicate) ⌝ }
 {
     if wide(head(rules, rule)) != predicate {
@@ -44,15 +44,16 @@ fn attempt(
     arguments: &Values,
     mask: u16,
     values: &mut Values,
+    given: &QueryBlock,
 ) -> Taken
-    requires { ⌜ Readable (now rules) (now heap) × RulePlace (now rules) rule × Counted (now arguments) 0 ⌝ }
-    ensures { λ r. ⌜ Attempts (now (rules .entry)) rule (now (heap .entry)) predicate (now (arguments .entry)) mask (now (values .exit)) (r .ok) (r .mask) ⌝ }
+    requires { ⌜ Readable (now given) (now rules) (now heap) × RulePlace (now given) (now rules) rule × Counted (now arguments) 0 ⌝ }
+    ensures { λ r. ⌜ Attempts (now (given .entry)) (now (rules .entry)) rule (now (heap .entry)) predicate (now (arguments .entry)) mask (now (values .exit)) (r .ok) (r .mask) ⌝ }
 {
     if serves(rules, rule, predicate) {
         *values = *arguments;
-        if find(rules, rule, heap, values) == 0 {
-            if pures_hold(rules, rule, values) {
-                return take(rules, rule, values, heap, mask);
+        if find(rules, rule, heap, values, given) == 0 {
+            if pures_hold(rules, rule, values, given) {
+                return take(rules, rule, values, heap, mask, given);
             }
         }
     }
@@ -68,15 +69,16 @@ pub fn choose(
     arguments: &Values,
     mask: u16,
     values: &mut Values,
+    given: &QueryBlock,
 ) -> Choice
-    requires { ⌜ Readable (now rules) (now heap) × (predicate < predicateCount (now rules)) × Counted (now arguments) 0 ⌝ }
-    ensures { λ r. ⌜ Chooses (now (rules .entry)) (now (heap .entry)) predicate (now (arguments .entry)) mask (now (values .exit)) r ⌝ }
+    requires { ⌜ Readable (now given) (now rules) (now heap) × (predicate < predicateCount (now rules)) × Counted (now arguments) 0 ⌝ }
+    ensures { λ r. ⌜ Chooses (now (given .entry)) (now (rules .entry)) (now (heap .entry)) predicate (now (arguments .entry)) mask (now (values .exit)) r ⌝ }
 {
     let count = rule_count(rules);
     let mut r = 0;
     while r < count {
         let rule = rule_place(r);
-        let tried = attempt(rules, rule, heap, predicate, arguments, mask, values);
+        let tried = attempt(rules, rule, heap, predicate, arguments, mask, values, given);
         if tried.ok {
             return Choice {
                 ok: true,

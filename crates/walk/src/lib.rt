@@ -28,6 +28,7 @@ ghost use Rattle.semantics.specs.Walk.{Walks, Walked};
 ghost use Rattle.words.specs.Told.{Told};
 ghost use Rattle.block.specs.Layout.{inputIn, ruleSetSize};
 ghost use Rattle.finding.specs.Values.{Counted};
+ghost use Rattle.walk.specs.Walk.{ConstantsFit};
 
 // Whether what was asked for could be had with free records alone, and the mask of all records taken then.
 pub struct Taken {
@@ -70,12 +71,12 @@ fn all_taken(records: usize, mask: u16) -> bool
 
 // The verdict: whether the query unfolds to a tree that takes every record.
 fn verdict(rules: &RuleBlock, heap: &HeapBlock, query: &QueryBlock) -> u64
-    requires { ⌜ WellFormedInput (inputIn (now rules) (now heap) (now query)) × (length (now rules) ≡ ruleSetSize) ⌝ }
+    requires { ⌜ WellFormedInput (inputIn (now rules) (now heap) (now query)) × (length (now rules) ≡ ruleSetSize) × ConstantsFit (now query) ⌝ }
     ensures { λ r. ⌜ Walks (inputIn (now (rules .entry)) (now (heap .entry)) (now (query .entry))) (record { refusal = 0; verdict = r }) ⌝ }
 {
     let arguments = arguments_of(query_values(query));
     let predicate = wide(query_predicate(query));
-    let top = descend(rules, heap, predicate, &arguments, 0, FUEL);
+    let top = descend(rules, heap, predicate, &arguments, 0, FUEL, query);
     if top.ok {
         if all_taken(record_count(heap), top.mask) {
             return 1;

@@ -1,6 +1,7 @@
 // A rule against the values of its variables: its pure conditions, and the records that its points-to atoms take.
 use super::Taken;
 use block::HeapBlock;
+use block::QueryBlock;
 use block::RuleBlock;
 use block::atom_address;
 use block::atom_count;
@@ -16,6 +17,7 @@ use finding::records::field;
 use finding::records::record_at;
 use finding::values::Values;
 use finding::values::entry;
+use finding::values::variable;
 use words::bit;
 use words::shares;
 ghost use mathlib.Core.Path.{_≡_};
@@ -27,17 +29,17 @@ ghost use Rattle.semantics.specs.Heap.{WellFormedHeap};
 ghost use Rattle.semantics.specs.Tree.{valuesOf, Meets, asked};
 ghost use Rattle.words.specs.Entries.{entries};
 ghost use Rattle.words.specs.Told.{Told};
-ghost use Rattle.block.specs.Layout.{termIn, pureIn, atomIn, recordIn, heapIn, pureCount, purePlace, atomCount, atomPlace, atomAddress, recordPlace, recordAddress};
-ghost use Rattle.block.specs.Ready.{Formed, Terms};
+ghost use Rattle.block.specs.Layout.{termAs, pureAs, atomAs, constantCount, fixedIn, recordIn, heapIn, pureCount, purePlace, atomCount, atomPlace, atomAddress, recordPlace, recordAddress};
+ghost use Rattle.block.specs.Ready.{FormedRead, Terms};
 ghost use Rattle.walk.specs.Taking.{PuresMet, TakesOne, TakesEach};
 
 // Whether pure condition k holds.
-fn pure_holds(rules: &RuleBlock, rule: usize, k: usize, values: &Values) -> bool
-    requires { ⌜ Formed (now rules) rule × (k < pureCount (now rules) rule) ⌝ }
-    ensures { λ (r : Bool). ⌜ Told r (Meets (now (values .entry)) (pureIn (now (rules .entry)) (purePlace rule k))) ⌝ }
+fn pure_holds(rules: &RuleBlock, rule: usize, k: usize, values: &Values, given: &QueryBlock) -> bool
+    requires { ⌜ FormedRead (now given) (now rules) rule × (k < pureCount (now rules) rule) × (constantCount (now given) ≤ 8) ⌝ }
+    ensures { λ (r : Bool). ⌜ Told r (Meets (now (values .entry)) (pureAs (fixedIn (now (given .entry))) (now (rules .entry)) (purePlace rule k))) ⌝ }
 {
-    let left = entry(values, pure_left(rules, rule, k));
-    let right = entry(values, pure_right(rules, rule, k));
+    let left = entry(values, pure_left(rules, rule, k), given);
+    let right = entry(values, pure_right(rules, rule, k), given);
     if pure_kind(rules, rule, k) == 0 {
         return left == right;
     }
@@ -45,14 +47,14 @@ fn pure_holds(rules: &RuleBlock, rule: usize, k: usize, values: &Values) -> bool
 }
 
 // Whether all pure conditions hold.
-pub fn pures_hold(rules: &RuleBlock, rule: usize, values: &Values) -> bool
-    requires { ⌜ Formed (now rules) rule ⌝ }
-    ensures { λ (r : Bool). ⌜ Told r (PuresMet (now (rules .entry)) rule (now (values .entry))) ⌝ }
+pub fn pures_hold(rules: &RuleBlock, rule: usize, values: &Values, given: &QueryBlock) -> bool
+    requires { ⌜ FormedRead (now given) (now rules) rule × (constantCount (now given) ≤ 8) ⌝ }
+    ensures { λ (r : Bool). ⌜ Told r (PuresMet (fixedIn (now (given .entry))) (now (rules .entry)) rule (now (values .entry))) ⌝ }
 {
     let count = pure_count(rules, rule);
     let mut k = 0;
     while k < count {
-        if pure_holds(rules, rule, k, values) {
+        if pure_holds(rules, rule, k, values, given) {
             k += 1;
         } else {
             return false;
@@ -69,13 +71,14 @@ fn fields_match(
     heap: &HeapBlock,
     i: usize,
     count: usize,
+    given: &QueryBlock,
 ) -> bool
-    requires { ⌜ Terms (now rules) terms count × (i < 16) × (count ≤ 4) ⌝ }
-    ensures { λ (r : Bool). ⌜ Told r (entries (now (heap .entry)) (recordPlace i + 2) count ≡ valuesOf (now (values .entry)) (map termIn (entries (now (rules .entry)) terms count))) ⌝ }
+    requires { ⌜ Terms (now rules) terms count × (i < 16) × (count ≤ 4) × (constantCount (now given) ≤ 8) ⌝ }
+    ensures { λ (r : Bool). ⌜ Told r (entries (now (heap .entry)) (recordPlace i + 2) count ≡ valuesOf (now (values .entry)) (map (termAs (fixedIn (now (given .entry)))) (entries (now (rules .entry)) terms count))) ⌝ }
 {
     let mut j = 0;
     while j < count {
-        if field(heap, i, j) == entry(values, rules[terms + j]) {
+        if field(heap, i, j) == entry(values, rules[terms + j], given) {
             j += 1;
         } else {
             return false;
@@ -92,15 +95,16 @@ fn record_matches(
     values: &Values,
     heap: &HeapBlock,
     i: usize,
+    given: &QueryBlock,
 ) -> bool
-    requires { ⌜ Formed (now rules) rule × (g < atomCount (now rules) rule) × (i < 16) × (recordAddress (now heap) i ≡ getD (now values) (atomAddress (now rules) rule g) 0) ⌝ }
-    ensures { λ (r : Bool). ⌜ Told r (recordIn (now (heap .entry)) (recordPlace i) ≡ asked (now (values .entry)) (atomIn (now (rules .entry)) (atomPlace rule g))) ⌝ }
+    requires { ⌜ FormedRead (now given) (now rules) rule × (g < atomCount (now rules) rule) × (i < 16) × (recordAddress (now heap) i ≡ getD (now values) (atomAddress (now rules) rule g) 0) × (constantCount (now given) ≤ 8) ⌝ }
+    ensures { λ (r : Bool). ⌜ Told r (recordIn (now (heap .entry)) (recordPlace i) ≡ asked (now (values .entry)) (atomAs (fixedIn (now (given .entry))) (now (rules .entry)) (atomPlace rule g))) ⌝ }
 {
     let count = atom_size(rules, rule, g);
     if record_size(heap, i) != count {
         return false;
     }
-    fields_match(rules, atom_fields(rule, g), values, heap, i, count)
+    fields_match(rules, atom_fields(rule, g), values, heap, i, count, given)
 }
 
 // Takes the record that points-to atom g asks for, if it is free.
@@ -111,11 +115,12 @@ fn take_record(
     values: &Values,
     heap: &HeapBlock,
     mask: u16,
+    given: &QueryBlock,
 ) -> Taken
-    requires { ⌜ Formed (now rules) rule × (g < atomCount (now rules) rule) × WellFormedHeap (heapIn (now heap)) ⌝ }
-    ensures { λ r. ⌜ TakesOne (now (rules .entry)) rule g (now (values .entry)) (now (heap .entry)) mask (r .ok) (r .mask) ⌝ }
+    requires { ⌜ FormedRead (now given) (now rules) rule × (g < atomCount (now rules) rule) × WellFormedHeap (heapIn (now heap)) × (constantCount (now given) ≤ 8) ⌝ }
+    ensures { λ r. ⌜ TakesOne (fixedIn (now (given .entry))) (now (rules .entry)) rule g (now (values .entry)) (now (heap .entry)) mask (r .ok) (r .mask) ⌝ }
 {
-    let i = record_at(heap, entry(values, atom_address(rules, rule, g)));
+    let i = record_at(heap, variable(values, atom_address(rules, rule, g)));
     if record_count(heap) <= i {
         return Taken { ok: false, mask };
     }
@@ -123,7 +128,7 @@ fn take_record(
     if shares(here, mask) {
         return Taken { ok: false, mask };
     }
-    if record_matches(rules, rule, g, values, heap, i) {
+    if record_matches(rules, rule, g, values, heap, i, given) {
         return Taken {
             ok: true,
             mask: here + mask,
@@ -133,15 +138,22 @@ fn take_record(
 }
 
 // Takes a free record for each points-to atom.
-pub fn take(rules: &RuleBlock, rule: usize, values: &Values, heap: &HeapBlock, mask: u16) -> Taken
-    requires { ⌜ Formed (now rules) rule × WellFormedHeap (heapIn (now heap)) ⌝ }
-    ensures { λ r. ⌜ TakesEach (now (rules .entry)) rule (now (values .entry)) (now (heap .entry)) mask (r .ok) (r .mask) ⌝ }
+pub fn take(
+    rules: &RuleBlock,
+    rule: usize,
+    values: &Values,
+    heap: &HeapBlock,
+    mask: u16,
+    given: &QueryBlock,
+) -> Taken
+    requires { ⌜ FormedRead (now given) (now rules) rule × WellFormedHeap (heapIn (now heap)) × (constantCount (now given) ≤ 8) ⌝ }
+    ensures { λ r. ⌜ TakesEach (fixedIn (now (given .entry))) (now (rules .entry)) rule (now (values .entry)) (now (heap .entry)) mask (r .ok) (r .mask) ⌝ }
 {
     let count = atom_count(rules, rule);
     let mut after = mask;
     let mut g = 0;
     while g < count {
-        let turn = take_record(rules, rule, g, values, heap, after);
+        let turn = take_record(rules, rule, g, values, heap, after, given);
         if turn.ok {
             after = turn.mask;
         } else {

@@ -3,6 +3,7 @@
 use super::Taken;
 use super::choosing::choose;
 use block::HeapBlock;
+use block::QueryBlock;
 use block::RuleBlock;
 use block::call_arity;
 use block::call_count;
@@ -12,21 +13,26 @@ use finding::values::Values;
 use finding::values::entry;
 use words::wide;
 ghost use Prim.Native.Nat.{_<_};
-ghost use Rattle.semantics.specs.RuleSet.{WellFormed};
-ghost use Rattle.block.specs.Layout.{ruleSetIn, predicateCount, callCount};
+ghost use Rattle.block.specs.Layout.{predicateCount, callCount};
 ghost use Rattle.finding.specs.Values.{Counted};
-ghost use Rattle.walk.specs.Walk.{Readable, RulePlace, CallsWith, WalksFrom};
+ghost use Rattle.walk.specs.Walk.{RulesReadable, Readable, RulePlace, CallsWith, WalksFrom};
 
 // The arguments of call c of a rule whose variables have these values; entries past the last are 0.
-fn call_arguments(rules: &RuleBlock, rule: usize, c: usize, values: &Values) -> Values
-    requires { ⌜ RulePlace (now rules) rule × (c < callCount (now rules) rule) × Counted (now values) 0 × WellFormed (ruleSetIn (now rules)) ⌝ }
-    ensures { λ r. ⌜ CallsWith (now (rules .entry)) rule c (now (values .entry)) r ⌝ }
+fn call_arguments(
+    rules: &RuleBlock,
+    rule: usize,
+    c: usize,
+    values: &Values,
+    given: &QueryBlock,
+) -> Values
+    requires { ⌜ RulePlace (now given) (now rules) rule × (c < callCount (now rules) rule) × Counted (now values) 0 × RulesReadable (now given) (now rules) ⌝ }
+    ensures { λ r. ⌜ CallsWith (now (given .entry)) (now (rules .entry)) rule c (now (values .entry)) r ⌝ }
 {
     let count = call_arity(rules, rule, c);
     let mut arguments = [0u64; 8];
     let mut j = 0;
     while j < count {
-        arguments[j] = entry(values, call_term(rules, rule, c, j));
+        arguments[j] = entry(values, call_term(rules, rule, c, j), given);
         j += 1;
     }
     arguments
@@ -41,15 +47,16 @@ pub fn descend(
     arguments: &Values,
     mask: u16,
     fuel: usize,
+    given: &QueryBlock,
 ) -> Taken
-    requires { ⌜ Readable (now rules) (now heap) × (predicate < predicateCount (now rules)) × Counted (now arguments) 0 ⌝ }
-    ensures { λ r. ⌜ WalksFrom (now (rules .entry)) (now (heap .entry)) fuel predicate (now (arguments .entry)) mask (r .ok) (r .mask) ⌝ }
+    requires { ⌜ Readable (now given) (now rules) (now heap) × (predicate < predicateCount (now rules)) × Counted (now arguments) 0 ⌝ }
+    ensures { λ r. ⌜ WalksFrom (now (given .entry)) (now (rules .entry)) (now (heap .entry)) fuel predicate (now (arguments .entry)) mask (r .ok) (r .mask) ⌝ }
 {
     if fuel == 0 {
         return Taken { ok: false, mask };
     }
     let mut values = [0u64; 8];
-    let choice = choose(rules, heap, predicate, arguments, mask, &mut values);
+    let choice = choose(rules, heap, predicate, arguments, mask, &mut values, given);
     if choice.ok {
         let rule = choice.rule;
         let count = call_count(rules, rule);
@@ -57,8 +64,8 @@ pub fn descend(
         let mut c = 0;
         while c < count {
             let called = wide(call_predicate(rules, rule, c));
-            let below = call_arguments(rules, rule, c, &values);
-            let next = descend(rules, heap, called, &below, after, fuel - 1);
+            let below = call_arguments(rules, rule, c, &values, given);
+            let next = descend(rules, heap, called, &below, after, fuel - 1, given);
             if next.ok {
                 after = next.mask;
             } else {

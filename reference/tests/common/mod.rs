@@ -12,8 +12,8 @@ pub fn book_h() -> Vec<u8> {
 
 /// The list segment: the first two rules of the house book.
 pub fn book_l() -> Vec<u8> {
-    let mut book = vec![0x01, 0x02, 0x02];
-    book.extend(&HOUSE[5..24]);
+    let mut book = vec![0x01, 0x02, 0x00, 0x02];
+    book.extend(&HOUSE[6..25]);
     book
 }
 
@@ -37,7 +37,7 @@ pub fn node(x: u64, y: u64, z: u64, below: Tree) -> Tree {
 
 pub fn book_s() -> Vec<u8> {
     vec![
-        0x02, 0x01, 0x02, 0x02, //
+        0x02, 0x01, 0x02, 0x00, 0x02, //
         0x00, 0x01, 0x01, 0x01, 0x01, 0x00, 0x00, 0x01, 0x01, 0x00, 0x01, //
         0x01, 0x00, 0x00, 0x00, 0x00,
     ]
@@ -46,18 +46,18 @@ pub fn book_s() -> Vec<u8> {
 /// Books with many fits, for the random tests.
 pub fn known_books() -> Vec<Vec<u8>> {
     let right = vec![
-        1, 2, 2, // segment from the right
+        1, 2, 0, 2, // segment from the right
         0, 0, 1, 0, 0, 1, 0, 0, // empty
         0, 1, 1, 1, 0, 1, 1, 2, 1, 1, 1, 0, 0, 2, // a unequal b, last record
     ];
     let halves = vec![
-        1, 2, 3, // segment in two halves
+        1, 2, 0, 3, // segment in two halves
         0, 0, 1, 0, 0, 1, 0, 0, // empty
         0, 0, 0, 1, 0, 1, 1, 0, // one record
         0, 1, 0, 0, 2, 0, 0, 2, 0, 2, 1, // two segments
     ];
     let any = vec![
-        2, 0, 1, 6, // any pool of records with up to two fields
+        2, 0, 1, 0, 6, // any pool of records with up to two fields
         0, 0, 0, 0, 0, // empty
         0, 1, 0, 0, 2, 1, 0, 0, // one record and the rest
         1, 0, 0, 1, 0, 0, 0, // no field
@@ -66,7 +66,7 @@ pub fn known_books() -> Vec<Vec<u8>> {
         0, 0, 0, 0, 3, 0, 0, 0, // three pools
     ];
     let tree = vec![
-        1, 1, 2, // binary tree
+        1, 1, 0, 2, // binary tree
         0, 0, 1, 0, 0, 255, 0, 0, // nil
         0, 2, 0, 1, 0, 2, 1, 2, 2, 0, 1, 0, 2, // two below
     ];
@@ -74,6 +74,7 @@ pub fn known_books() -> Vec<Vec<u8>> {
 }
 
 pub const NIL: u8 = 255;
+pub const FIRST_CONSTANT: u8 = 128;
 pub const EQUAL: u8 = 0;
 pub const UNEQUAL: u8 = 1;
 
@@ -101,22 +102,34 @@ pub fn rule(
     bytes
 }
 
+/// A book without constants.
 pub fn book(arities: &[u8], rules: &[Vec<u8>]) -> Vec<u8> {
+    book_with(&[], arities, rules)
+}
+
+pub fn book_with(constants: &[u32], arities: &[u8], rules: &[Vec<u8>]) -> Vec<u8> {
     let mut bytes = vec![arities.len() as u8];
     bytes.extend(arities);
+    bytes.push(constants.len() as u8);
+    bytes.extend(constants.iter().flat_map(|value| value.to_le_bytes()));
     bytes.push(rules.len() as u8);
     bytes.extend(rules.iter().flatten());
     bytes
 }
 
-/// A rule set's bytes.
+/// A rule set's bytes. Numbers are written as the last constant with that value,
+/// and 0 as nil only if no constant is 0.
 pub fn written(rules: &RuleSet) -> Vec<u8> {
+    let constants = &rules.constants;
     let term = |term: &Term| match term {
-        Term::Nil => NIL,
+        Term::Number(number) => match constants.iter().rposition(|value| value == number) {
+            Some(index) => FIRST_CONSTANT + index as u8,
+            None => NIL,
+        },
         Term::Variable(variable) => *variable as u8,
     };
     let arities: Vec<u8> = rules.arities.iter().map(|&arity| arity as u8).collect();
-    let mut bytes = book(&arities, &[]);
+    let mut bytes = book_with(constants, &arities, &[]);
     *bytes.last_mut().unwrap() = rules.rules.len() as u8;
     for rule in &rules.rules {
         let bound = rule.variables - rules.arities[rule.head];
@@ -241,6 +254,33 @@ pub fn plain_lists() -> Vec<u8> {
     )
 }
 
+/// A list to nil whose records have type code 7 as their first field.
+pub fn plain_typed() -> Vec<u8> {
+    let code = FIRST_CONSTANT;
+    book_with(
+        &[7],
+        &[1],
+        &[
+            rule(0, 0, &[[EQUAL, 0, NIL]], &[], &[]),
+            rule(0, 1, &[[UNEQUAL, 0, NIL]], &[(0, &[code, 1])], &[(0, &[1])]),
+        ],
+    )
+}
+
+/// A list whose records have a type code: 9 with the next record and its code
+/// after it, 7 with nothing after it. The second argument is the first code.
+pub fn plain_kinds() -> Vec<u8> {
+    let (end, on) = (FIRST_CONSTANT, FIRST_CONSTANT + 1);
+    book_with(
+        &[7, 9],
+        &[2],
+        &[
+            rule(0, 0, &[[EQUAL, 1, end]], &[(0, &[end])], &[]),
+            rule(0, 2, &[[EQUAL, on, 1]], &[(0, &[1, 2, 3])], &[(0, &[2, 3])]),
+        ],
+    )
+}
+
 pub fn plain_books() -> Vec<Vec<u8>> {
     vec![
         plain_segment(),
@@ -249,6 +289,8 @@ pub fn plain_books() -> Vec<Vec<u8>> {
         plain_double(),
         plain_parents(),
         plain_lists(),
+        plain_typed(),
+        plain_kinds(),
     ]
 }
 
@@ -326,12 +368,22 @@ impl Dice {
         from[self.below(from.len())]
     }
 
-    fn term(&mut self, variables: usize) -> u8 {
-        if variables == 0 || self.below(6) == 0 {
-            255
+    fn term(&mut self, variables: usize, constants: usize) -> u8 {
+        if constants > 0 && self.below(4) == 0 {
+            FIRST_CONSTANT + self.below(constants) as u8
+        } else if variables == 0 || self.below(6) == 0 {
+            NIL
         } else {
             self.below(variables) as u8
         }
+    }
+
+    /// Every other time none. They are mostly numbers that also stand in pools,
+    /// and so few of these that some are equal or 0.
+    fn constants(&mut self, most: usize) -> Vec<u32> {
+        let count = self.below(2) * self.between(1, most);
+        let values = [0, 1, 2, 3, 4, 7, 7, 9, u32::MAX];
+        (0..count).map(|_| self.pick(&values)).collect()
     }
 
     /// A book that is read without fault, with few variables in each rule.
@@ -345,10 +397,12 @@ impl Dice {
         let arities: Vec<usize> = (0..predicates)
             .map(|_| self.pick(&[0, 1, 1, 2, 2, 2, 3]).min(most_variables))
             .collect();
-        let mut book = vec![predicates as u8];
-        book.extend(arities.iter().map(|&arity| arity as u8));
+        let constants = self.constants(3);
+        let heads: Vec<u8> = arities.iter().map(|&arity| arity as u8).collect();
+        let mut book = book_with(&constants, &heads, &[]);
+        let constants = constants.len();
         let rules = self.between(predicates, predicates + 3);
-        book.push(rules as u8);
+        *book.last_mut().unwrap() = rules as u8;
         for rule in 0..rules {
             // The first rules are grounds to start from, one for each predicate.
             let start = rule < predicates;
@@ -361,8 +415,8 @@ impl Dice {
             for _ in 0..pure {
                 let unequal = self.below(if start { 4 } else { 2 }) == 1;
                 book.push(unequal as u8);
-                book.push(self.term(variables));
-                book.push(self.term(variables));
+                book.push(self.term(variables, constants));
+                book.push(self.term(variables, constants));
             }
             let cells = if variables == 0 {
                 0
@@ -377,7 +431,7 @@ impl Dice {
                 let fields = self.pick(&[0, 1, 1, 1, 2]);
                 book.push(fields);
                 for _ in 0..fields {
-                    book.push(self.term(variables));
+                    book.push(self.term(variables, constants));
                 }
             }
             let calls = if start { 0 } else { self.pick(&[1, 1, 2, 3]) };
@@ -386,7 +440,7 @@ impl Dice {
                 let predicate = self.below(predicates);
                 book.push(predicate as u8);
                 for _ in 0..arities[predicate] {
-                    book.push(self.term(variables));
+                    book.push(self.term(variables, constants));
                 }
             }
         }
@@ -396,17 +450,20 @@ impl Dice {
     /// A book of few rules with many conditions and variables, and nothing else.
     pub fn conditions(&mut self, most_arguments: usize, most_variables: usize) -> Vec<u8> {
         let arity = self.between(0, most_arguments);
+        let values = self.constants(8);
+        let constants = values.len();
         let mut rules = Vec::new();
         for _ in 0..self.between(2, 3) {
             let variables = self.between(arity, most_variables);
             let mut pure = Vec::new();
             for _ in 0..self.between(0, 8) {
                 let kind = self.pick(&[EQUAL, EQUAL, UNEQUAL]);
-                pure.push([kind, self.term(variables), self.term(variables)]);
+                let left = self.term(variables, constants);
+                pure.push([kind, left, self.term(variables, constants)]);
             }
             rules.push(rule(0, (variables - arity) as u8, &pure, &[], &[]));
         }
-        book(&[arity as u8], &rules)
+        book_with(&values, &[arity as u8], &rules)
     }
 
     /// A book made to be plain: the rules of a predicate split its arguments
@@ -421,10 +478,12 @@ impl Dice {
         let arities: Vec<u8> = (0..predicates)
             .map(|_| self.pick(&[0, 1, 1, 1, 2, 2, 2, 3]))
             .collect();
+        let values = self.constants(3);
+        let constants = values.len();
         let mut rules = Vec::new();
         for head in 0..predicates {
-            for split in self.splits(arities[head]) {
-                rules.push(self.split_rule(&arities, head, split));
+            for split in self.splits(arities[head], constants) {
+                rules.push(self.split_rule(&arities, constants, head, split));
             }
         }
         let fault = self.below(20);
@@ -432,7 +491,8 @@ impl Dice {
             // The same rule twice.
             rules.push(rules[self.below(rules.len())].clone());
         }
-        let mut set = formats::read_rule_set(&book(&arities, &rules)).expect("no fault");
+        let mut set =
+            formats::read_rule_set(&book_with(&values, &arities, &rules)).expect("no fault");
         let rule = self.below(set.rules.len());
         let rule = &mut set.rules[rule];
         match fault {
@@ -453,14 +513,22 @@ impl Dice {
         written(&set)
     }
 
-    /// Conditions on the arguments of which no two can be met together.
-    fn splits(&mut self, arity: u8) -> Vec<Vec<[u8; 3]>> {
+    /// Conditions on the arguments of which no two can be met together, if the
+    /// constants are different.
+    fn splits(&mut self, arity: u8, constants: usize) -> Vec<Vec<[u8; 3]>> {
         if arity == 0 {
             return vec![vec![]];
         }
+        if constants > 0 && self.below(3) == 0 {
+            // One rule for each constant, and nil for the last.
+            let code = self.below(arity as usize) as u8;
+            let constants = FIRST_CONSTANT..FIRST_CONSTANT + constants as u8;
+            let values = constants.chain([NIL]);
+            return values.map(|value| vec![[EQUAL, code, value]]).collect();
+        }
         let mut pair = || {
             let left = self.below(arity as usize) as u8;
-            let right = self.term(arity as usize);
+            let right = self.term(arity as usize, constants);
             [left, if right == left { NIL } else { right }]
         };
         let ([a, b], [c, d]) = (pair(), pair());
@@ -473,11 +541,17 @@ impl Dice {
         }
     }
 
-    fn split_rule(&mut self, arities: &[u8], head: usize, mut pure: Vec<[u8; 3]>) -> Vec<u8> {
+    fn split_rule(
+        &mut self,
+        arities: &[u8],
+        constants: usize,
+        head: usize,
+        mut pure: Vec<[u8; 3]>,
+    ) -> Vec<u8> {
         let arity = arities[head] as usize;
         let mut variables = arity;
         if self.below(5) == 0 {
-            pure.push([EQUAL, variables as u8, self.term(variables)]);
+            pure.push([EQUAL, variables as u8, self.term(variables, constants)]);
             variables += 1;
         }
         let first = pure.first().is_none_or(|pure| pure[0] == EQUAL);
@@ -491,13 +565,17 @@ impl Dice {
                     fields.push(variables as u8);
                     variables += 1;
                 } else {
-                    fields.push(self.term(variables));
+                    fields.push(self.term(variables, constants));
                 }
             }
             cells.push((address, fields));
         }
         if variables > arity && self.below(4) == 0 {
-            pure.push([UNEQUAL, variables as u8 - 1, self.term(variables)]);
+            pure.push([
+                UNEQUAL,
+                variables as u8 - 1,
+                self.term(variables, constants),
+            ]);
         }
         let mut calls: Vec<(u8, Vec<u8>)> = Vec::new();
         let most = if cells.is_empty() { 0 } else { 3 };
@@ -505,7 +583,7 @@ impl Dice {
             let predicate = self.below(arities.len());
             let arguments = (0..arities[predicate]).map(|_| match self.below(2) {
                 0 if variables > arity => self.between(arity, variables - 1) as u8,
-                _ => self.term(variables),
+                _ => self.term(variables, constants),
             });
             calls.push((predicate as u8, arguments.collect()));
         }
@@ -520,9 +598,10 @@ impl Dice {
     /// changed afterwards.
     pub fn grown(&mut self, book: &[u8], most: usize) -> (Vec<u8>, Vec<u8>) {
         let rules = formats::read_rule_set(book).expect("no fault");
+        let numbers = [&NUMBERS[..], &rules.constants[..]].concat();
         let predicate = self.below(rules.arities.len());
         let mut values: Vec<u32> = (0..rules.arities[predicate])
-            .map(|_| self.pick(&NUMBERS))
+            .map(|_| self.pick(&numbers))
             .collect();
         let mut records: BTreeMap<u32, Vec<u32>> = BTreeMap::new();
         let mut goals = vec![(predicate, values.clone())];
@@ -534,7 +613,7 @@ impl Dice {
             busy.extend(goals.iter().flat_map(|(_, arguments)| arguments));
             let rule = &rules.rules[self.below(rules.rules.len().max(1))..];
             let rule = rule.first().filter(|rule| rule.head == predicate);
-            let step = rule.and_then(|rule| self.step(rule, &arguments, busy, most));
+            let step = rule.and_then(|rule| self.step(rule, &arguments, &numbers, busy, most));
             match step {
                 Some((more, below))
                     if records.len() + more.len() <= most
@@ -576,12 +655,13 @@ impl Dice {
         &mut self,
         rule: &Rule,
         arguments: &[u32],
+        numbers: &[u32],
         mut busy: BTreeSet<u32>,
         most: usize,
     ) -> Step {
         let mut values = arguments.to_vec();
         while values.len() < rule.variables {
-            let mut value = self.pick(&NUMBERS);
+            let mut value = self.pick(numbers);
             if self.below(8) > 0 && (busy.len() > most || busy.contains(&value)) {
                 value = 0;
             }
@@ -589,7 +669,7 @@ impl Dice {
             values.push(value);
         }
         let value = |values: &[u32], term: Term| match term {
-            Term::Nil => 0,
+            Term::Number(number) => number,
             Term::Variable(variable) => values[variable],
         };
         // Help bound variables to the values they must have.

@@ -8,7 +8,7 @@ returns : tie.Need-returns
 returns c =
     let d = c .before .before .before .before .before .before .before in
     let a = d .before .before .before .before .before .before .before .before .args in
-    atom-fills (a .n) (a .at) (d .before .before .before .before .named .ensures) (d .count .ensures) (c .before .before .terms .ensures)
+    atom-fills (a .given .now) (a .n) (a .at) (d .before .before .before .before .named .ensures) (d .count .ensures) (c .before .before .terms .ensures)
 
 pub atom-spec : {M : Type 1} → statement M
 atom-spec =
@@ -19,5 +19,5 @@ atom-spec =
     omega (arith, d .before .before .before .before .before .before .before .before .pre .1, d .count .ensures, d .before .before .before .before .named .ensures))
     (λ c. omega (arith, c .before .before .before .before .before .before .before .before .before .before .before .before .pre))
     (λ c κs. let d = c .before .before .before .before in let p = d .before .before .before .before .before .before .before .before .pre in
-    (p .0, omega (arith, p .1, d .count .ensures, d .before .before .before .before .named .ensures)))
+    (p .0, omega (arith, p .1, d .count .ensures, d .before .before .before .before .named .ensures), p .2))
     (λ c. returns c .kept .long) returns)

@@ -18,15 +18,15 @@ calls-requires : tie.Need-calls-requires
 calls-requires c κs =
     let count = c .before .before .before .before in
     let s = start (first (second count)) in
-    let k = kept₀₅ (s .args .n) (s .args .at) (first (second count) .count .ensures) (second count .before .before .before .before .pures .ensures)
+    let k = kept₀₅ (s .args .given .now) (s .args .n) (s .args .at) (first (second count) .count .ensures) (second count .before .before .before .before .pures .ensures)
     (second count .count2 .ensures) (count .before .before .before .before .atoms .ensures) (count .count3 .ensures) in
-    (s .pre .0, header-kept k (omega (arith, s .pre .2)) (s .pre .1), omega (arith, s .pre .2), omega (arith, s .pre .3, count .count3 .ensures .sized .high, k .long))
+    (s .pre .0, header-kept k (omega (arith, s .pre .2)) (s .pre .1), omega (arith, s .pre .2), omega (arith, s .pre .3, count .count3 .ensures .sized .high, k .long), s .pre .4)
 
 returns : tie.Need-returns
 returns c =
     let count = c .before .before .before .before .before .before .before in
     let s = start (first (second count)) in
-    body-fills (s .args .n) (s .args .at) (first (second count) .count .ensures) (second count .before .before .before .before .pures .ensures)
+    body-fills (s .args .given .now) (s .args .n) (s .args .at) (first (second count) .count .ensures) (second count .before .before .before .before .pures .ensures)
     (second count .count2 .ensures) (count .before .before .before .before .atoms .ensures) (count .count3 .ensures)
     (s .pre .1) (s .pre .2) (c .before .before .calls .ensures)
 
@@ -36,7 +36,7 @@ body-spec =
     (tie.spec (λ c. omega arith) (λ c κs. omega arith) (λ c. omega (arith, start (c .before .before) .pre))
     (λ c. let d = c .before .before .before in omega (arith, start d .pre .3, d .count .ensures))
     (λ c. omega (arith, start (c .before .before .before .before) .pre))
-    (λ c κs. let d = c .before .before .before .before in (start d .pre .0, omega (arith, start d .pre .3, d .count .ensures)))
+    (λ c κs. let d = c .before .before .before .before in (start d .pre .0, omega (arith, start d .pre .3, d .count .ensures), start d .pre .4))
     (λ c. omega (arith, start (c .before .before .before .before .before .before .before .before) .pre))
     (λ c κs. let d = c .before .before .before .before .before .before .before .before in
     (omega arith, omega (arith, start d .pre .3, c .before .before .before .pures .ensures, d .count .ensures)))
@@ -44,7 +44,7 @@ body-spec =
     (λ c. let d = c .before .before .before in omega (arith, start (first d) .pre .3, d .count2 .ensures, d .before .before .before .before .pures .ensures, first d .count .ensures))
     (λ c. omega (arith, start (first (c .before .before .before .before)) .pre))
     (λ c κs. let d = c .before .before .before .before in let s = start (first d) in
-    (s .pre .0, omega (arith, s .pre .3, d .count2 .ensures, d .before .before .before .before .pures .ensures, first d .count .ensures)))
+    (s .pre .0, omega (arith, s .pre .3, d .count2 .ensures, d .before .before .before .before .pures .ensures, first d .count .ensures), s .pre .4))
     (λ c. let s = start (first (c .before .before .before .before .before .before .before .before)) in omega (arith, s .pre .3, s .good .1 .1 .0))
     (λ c κs. let d = c .before .before .before .before .before .before .before .before in
     (omega arith, omega (arith, start (first d) .pre .3, c .before .before .before .atoms .ensures, d .count2 .ensures, d .before .before .before .before .pures .ensures, first d .count .ensures)))

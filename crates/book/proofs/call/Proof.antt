@@ -8,7 +8,7 @@ returns : tie.Need-returns
 returns c =
     let d = c .before .before .before .before .before .before .before .before in
     let s = d .before .before .before .before .before in
-    call-fills (s .args .n) (s .args .at) (s .pre .1) (s .pre .2) (d .named .ensures) (c .before .before .terms .ensures)
+    call-fills (s .args .given .now) (s .args .n) (s .args .at) (s .pre .1) (s .pre .2) (d .named .ensures) (c .before .before .terms .ensures)
 
 pub call-spec : {M : Type 1} → statement M
 call-spec =
@@ -20,5 +20,5 @@ call-spec =
     omega (arith, p, p .1 .few, d .named .ensures .sized (p .1 .some), d .named .ensures .kept .long))
     (λ c. omega (arith, c .before .before .before .before .before .before .before .before .before .before .pre))
     (λ c κs. let d = c .before .before .before .before .before in let s = d .before .before .before .before .before in
-    (s .pre .0, omega (arith, s .pre .3, arity-few (s .args .at) (s .pre .1) (s .pre .2) (d .named .ensures), d .named .ensures .kept .long)))
+    (s .pre .0, omega (arith, s .pre .3, arity-few (s .args .at) (s .pre .1) (s .pre .2) (d .named .ensures), d .named .ensures .kept .long), s .pre .4))
     (λ c. returns c .kept .long) returns)

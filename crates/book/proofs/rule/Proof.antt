@@ -15,7 +15,7 @@ returns : tie.Need-returns
 returns c =
     let d = c .before .before .before .before .before .before .before in
     let s = start (name d) in
-    rule-fills (s .args .at) (s .pre .0) (s .pre .1) (name d .named .ensures) (d .count .ensures) (c .before .before .body .ensures)
+    rule-fills (s .args .given .now) (s .args .at) (s .pre .0) (s .pre .1) (name d .named .ensures) (d .count .ensures) (c .before .before .body .ensures)
 
 pub rule-spec : {M : Type 1} → statement M
 rule-spec =
@@ -36,5 +36,6 @@ rule-spec =
       header-kept (bound .kept) (omega (arith, s .pre .1)) (header-kept (head .kept) (s .pre .1) (s .pre .0)),
       s .pre .1,
       omega (arith, s .pre .2, head .kept .long, bound .kept .long),
+      s .pre .3,
     ))
     (λ c. returns c .kept .long) returns)

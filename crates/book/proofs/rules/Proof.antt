@@ -8,10 +8,10 @@ use Rattle.book.proofs.rules.Statement.{statement}
 use Rattle.book.proofs.rules.Tie as tie
 
 abbrev Inv-loop : tie.InvT-loop
-Inv-loop s block₀ from count most next₀ k₀ block next k = Filled (ruleLayout (aritiesIn block₀)) from count s next₀ block₀ k block next
+Inv-loop s block₀ from count given most next₀ k₀ block next k = Filled (ruleLayout (aritiesIn block₀) given) from count s next₀ block₀ k block next
 
 abbrev μ-loop : tie.MeasureT-loop
-μ-loop s block₀ from count most next₀ k₀ block next k = count - k
+μ-loop s block₀ from count given most next₀ k₀ block next k = count - k
 
 pub rules-spec : {M : Type 1} → statement M
 rules-spec =
@@ -19,10 +19,10 @@ rules-spec =
     (tie.spec Inv-loop μ-loop (λ c. none)
     (λ c. omega (arith, c .before .before .before .before .before .pre)) (λ c. omega (arith, c .before .before .before .before .before .pre))
     (λ c κs. let p = c .before .before .before .before .before .pre in let k = c .before .before .loop .inv .fills .kept in
-    (header-kept k (p .1) (p .0), omega (arith, p .1), rw (k .long) (omega (arith, p .2))))
+    (header-kept k (p .1) (p .0), omega (arith, p .1), rw (k .long) (omega (arith, p .2)), p .3))
     (λ c. omega arith) (λ c. omega arith)
     (λ c. let a = c .before .before .before .before .before .before .before .before .args in
     let p = c .before .before .before .before .before .before .before .before .pre in let l = c .before .before .before .before .before .loop .inv in
     let here = rw (arities-kept (l .fills .kept) (p .1) (p .0 .few)) at (c .before .before .rule .ensures) in
-    more (rule-local (aritiesIn (a .block .now))) (p .1) l here (omega arith) (omega arith))
+    more (rule-local (aritiesIn (a .block .now)) (a .given .now)) (p .1) l here (omega arith) (omega arith))
     (λ c. c .before .loop .inv .fills .kept .long) (λ c. whole (c .loop-test .left) (c .before .loop .inv)))

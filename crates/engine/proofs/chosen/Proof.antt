@@ -1,5 +1,5 @@
 -- Every record, or the part that was handed in.
-use mathlib.Core.Path.{_≡_, refl}
+use mathlib.Core.Path.{refl}
 use borrow.Author.Needs.{needs}
 use Rattle.engine.proofs.chosen.Statement.{statement}
 use Rattle.engine.proofs.chosen.Tie as tie

@@ -1,17 +1,18 @@
 -- `verdict` walks from the query with no record taken and fuel for one more than there can be.
 use borrow.Author.Needs.{needs}
-use mathlib.Core.Path.{refl, sym, ap, _∙_}
+use mathlib.Core.Path.{_∙_}
 use native.Mathlib.Omega.{arith}
-use lib.ListN.{length}
 use Rattle.words.proofs.Tabulate.{tabulate-length}
 use Rattle.block.specs.Layout.{queryCount, queryValue}
-use Rattle.block.proofs.{HeapInBlock.records-few, InputInBlock.valid, InputInBlock.values-few, InputInBlock.predicate-few}
+use Rattle.block.proofs.{HeapInBlock.records-few, InputInBlock.valid, InputInBlock.values-few, InputInBlock.constants-few, InputInBlock.predicate-few}
 use Rattle.walk.proofs.Verdicts.{readable, named, verdict-fits, verdict-part, verdict-none}
 use Rattle.walk.proofs.verdict.Statement.{statement}
 use Rattle.walk.proofs.verdict.Tie as tie
 
 query-values-requires : tie.Need-query-values-requires
-query-values-requires c κs = values-few (c .args .rules .now) (c .args .heap .now) (c .args .query .now) (c .pre .0)
+query-values-requires c κs =
+    let g = c .args in
+    (constants-few (g .rules .now) (g .heap .now) (g .query .now) (c .pre .0), values-few (g .rules .now) (g .heap .now) (g .query .now) (c .pre .0))
 
 arguments-of-requires : tie.Need-arguments-of-requires
 arguments-of-requires c κs =
@@ -29,7 +30,7 @@ descend-requires c κs =
     let a : tie.After-arguments-of = w .before .before in
     let s : tie.Start = a .before .before in
     let g = s .args in (
-      readable (g .rules .now) (g .heap .now) (g .query .now) (s .pre .0) (s .pre .1),
+      readable (g .rules .now) (g .heap .now) (g .query .now) (s .pre .0) (s .pre .1) (s .pre .2),
       omega (arith, w .wide .ensures .0, w .before .query-predicate .ensures, named (g .rules .now) (g .heap .now) (g .query .now) (s .pre .0)),
       a .arguments-of .ensures .1,
     )

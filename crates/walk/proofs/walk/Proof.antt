@@ -1,14 +1,22 @@
 -- `walk` meets its contract: what the reader refuses is refused, and of what it accepts `verdict` decides.
 use borrow.Author.Needs.{needs}
 use mathlib.Core.Path.{refl}
-use Rattle.formats.proofs.Answers.{well-formed, block-long, unread, answered}
+use native.Mathlib.Omega.{arith}
+use Rattle.formats.proofs.Answers.{is-accepted, well-formed, block-long, unread, answered}
+use Rattle.walk.proofs.Verdicts.{constants-fit}
 use Rattle.walk.proofs.walk.Statement.{statement}
 use Rattle.walk.proofs.walk.Tie as tie
 
 verdict-requires : tie.Need-verdict-requires
 verdict-requires c κs =
     let a : tie.After-enum-told = c .before .before .before in
-    (well-formed (a .before .before .read .ensures) (a .enum-told .given .1), block-long (a .before .before .read .ensures) (a .enum-told .given .1))
+    let read = a .before .before .read .ensures in
+    let question = a .before .before .before .before .before .before in (
+      well-formed read (a .enum-told .given .1),
+      block-long read (a .enum-told .given .1),
+      constants-fit _ _ _ _ _ _ (is-accepted (rw (a .enum-told .given .1) at read)) (λ i. omega (arith, question .before .before .shared-slice-known .given i))
+          (λ i. omega (arith, question .before .shared-slice-known2 .given i)) (λ i. omega (arith, question .shared-slice-known3 .given i)),
+    )
 
 returns : tie.Need-returns
 returns c = unread (c .before .before .before .read .ensures) (c .before .n .given .1) refl

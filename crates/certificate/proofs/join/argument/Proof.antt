@@ -13,12 +13,12 @@ returns c =
     let s : tie.Start = c .before .before .before .before in
     let g = s .args in
     rw (c .position .ensures, c .before .call-term .ensures)
-    (argument-at (g .rules .now) (givenBy (g .word)) (callPlace (g .rule) (g .c) + 1) (callArity (g .rules .now) (g .rule) (g .c)) (g .j) (omega arith))
+    (argument-at (λ v. v) (g .rules .now) (givenBy (g .word)) (callPlace (g .rule) (g .c) + 1) (callArity (g .rules .now) (g .rule) (g .c)) (g .j) (omega arith))
 
 returns-2 : tie.Need-returns-2
 returns-2 c =
     let g = c .before .before .args in
-    argument-past (g .rules .now) (givenBy (g .word)) (callPlace (g .rule) (g .c) + 1) (callArity (g .rules .now) (g .rule) (g .c)) (g .j) (omega arith)
+    argument-past (λ v. v) (g .rules .now) (givenBy (g .word)) (callPlace (g .rule) (g .c) + 1) (callArity (g .rules .now) (g .rule) (g .c)) (g .j) (omega arith)
 
 pub argument-spec : {M : Type 1} → statement M
 argument-spec = tie.close (tie.spec (λ c κs. search needs) (λ c κs. search needs) (λ c κs. search needs) returns returns-2)

@@ -29,13 +29,13 @@ returns c =
     told-false
     (λ p.
     c .if1 .left
-    (fields-are (g .rules .now) (givenBy (g .word)) (g .terms) (g .count) (g .records .now) (g .fields) .0 p (l .loop .j) (omega arith)
+    (fields-are (λ v. v) (g .rules .now) (givenBy (g .word)) (g .terms) (g .count) (g .records .now) (g .fields) .0 p (l .loop .j) (omega arith)
     ∙ sym (c .before .position .ensures)))
 
 returns-2 : tie.Need-returns-2 Inv-loop μ-loop
 returns-2 c =
     let g = c .before .before .args in
-    told-true (fields-are (g .rules .now) (givenBy (g .word)) (g .terms) (g .count) (g .records .now) (g .fields) .1 (λ j h. c .before .loop .inv .1 j (omega arith)))
+    told-true (fields-are (λ v. v) (g .rules .now) (givenBy (g .word)) (g .terms) (g .count) (g .records .now) (g .fields) .1 (λ j h. c .before .loop .inv .1 j (omega arith)))
 
 pub fields-match-spec : {M : Type 1} → statement M
 fields-match-spec =

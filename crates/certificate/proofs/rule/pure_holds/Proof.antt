@@ -9,14 +9,14 @@ returns : tie.Need-returns
 returns c =
     let p : tie.After-position = c .before .before .before .before in
     let g = p .before .before .args in
-    pure-equal (g .rules .now) (g .rule) (g .k) (givenBy (g .word)) (c .before .pure-kind .ensures) (rw (p .before .pure-left .ensures) at (p .position .ensures))
+    pure-equal (λ v. v) (g .rules .now) (g .rule) (g .k) (givenBy (g .word)) (c .before .pure-kind .ensures) (rw (p .before .pure-left .ensures) at (p .position .ensures))
     (rw (c .before .before .before .pure-right .ensures) at (c .before .before .position2 .ensures)) (c .if1 .taken)
 
 returns-2 : tie.Need-returns-2
 returns-2 c =
     let p : tie.After-position = c .before .before .before .before in
     let g = p .before .before .args in
-    pure-unequal (g .rules .now) (g .rule) (g .k) (givenBy (g .word)) (c .before .pure-kind .ensures) (rw (p .before .pure-left .ensures) at (p .position .ensures))
+    pure-unequal (λ v. v) (g .rules .now) (g .rule) (g .k) (givenBy (g .word)) (c .before .pure-kind .ensures) (rw (p .before .pure-left .ensures) at (p .position .ensures))
     (rw (c .before .before .before .pure-right .ensures) at (c .before .before .position2 .ensures)) (c .if1 .left)
 
 pub pure-holds-spec : {M : Type 1} → statement M

@@ -15,7 +15,7 @@ returns c =
     told-false
     (λ e.
     c .if1 .taken
-    (s .record-address .ensures ∙ address-asked (g .rules .now) (g .rule) (g .g) (givenBy (g .word)) (g .records .now) (g .i) e
+    (s .record-address .ensures ∙ address-asked (λ v. v) (g .rules .now) (g .rule) (g .g) (givenBy (g .word)) (g .records .now) (g .i) e
     ∙ sym (rw (c .before .before .atom-address .ensures) at (c .before .variable .ensures))))
 
 returns-2 : tie.Need-returns-2
@@ -25,7 +25,7 @@ returns-2 c =
     told-false
     (λ e.
     c .if2 .taken
-    (c .before .record-size .ensures .0 ∙ size-asked (g .rules .now) (g .rule) (g .g) (givenBy (g .word)) (g .records .now) (g .i) e
+    (c .before .record-size .ensures .0 ∙ size-asked (λ v. v) (g .rules .now) (g .rule) (g .g) (givenBy (g .word)) (g .records .now) (g .i) e
     ∙ sym (c .before .before .atom-size .ensures .0)))
 
 fields-match-requires : tie.Need-fields-match-requires
@@ -41,7 +41,7 @@ returns-3 c =
     let sized : tie.After-atom-size = compared .before in
     let placed : tie.After-variable = sized .before .before in
     let g = placed .before .before .before .args in
-    record-told (g .rules .now) (g .rule) (g .g) (givenBy (g .word)) (g .records .now) (g .i)
+    record-told (λ v. v) (g .rules .now) (g .rule) (g .g) (givenBy (g .word)) (g .records .now) (g .i)
     (sym (placed .before .before .record-address .ensures) ∙ sized .before .if1 .left ∙ rw (placed .before .atom-address .ensures) at (placed .variable .ensures))
     (sym (compared .record-size .ensures .0) ∙ c .before .before .before .if2 .left ∙ sized .atom-size .ensures .0)
     (rw (c .before .record-fields .ensures, c .before .before .atom-fields .ensures, sized .atom-size .ensures .0) at (c .fields-match .ensures))

@@ -5,7 +5,7 @@ use native.Mathlib.Omega.{arith}
 use borrow.Author.Needs.{needs}
 use lib.ListN.{getD}
 use Rattle.block.specs.Layout.{atomAddress, recordCount, recordSize}
-use Rattle.block.proofs.{TermsInBlock.term-variable, HeapInBlock.records-few, Scopes.formed-address, Scopes.formed-fields}
+use Rattle.block.proofs.{HeapInBlock.records-few, Scopes.formed-fields}
 use Rattle.finding.proofs.Learning.{along-still}
 use Rattle.finding.proofs.Addresses.{one-record, is-there, is-nowhere}
 use Rattle.finding.proofs.Fields.{along-record}
@@ -13,31 +13,26 @@ use Rattle.finding.proofs.links.along_atom.Statement.{statement}
 use Rattle.finding.proofs.links.along_atom.Tie as tie
 
 -- what was read is the entry of the atom's address
-entry-is : (c : tie.After-entry)
-    → let g = c .before .before .before .args in getD (g .values .now) (atomAddress (g .rules .now) (g .rule) (g .g)) 0 ≡ c .entry .result
-entry-is c =
-    let s : tie.Start = c .before .before .before in
-    let f = s .pre .0 .ready in
-    let g = s .args in
-    term-variable (g .values .now) (atomAddress (g .rules .now) (g .rule) (g .g)) (omega (arith, f .variables-few, f .atom-address (g .g) (s .pre .1)))
-    ∙ sym (rw (c .before .atom-address .ensures) at (c .entry .ensures))
+entry-is : (c : tie.After-variable)
+    → let g = c .before .before .before .args in getD (g .values .now) (atomAddress (g .rules .now) (g .rule) (g .g)) 0 ≡ c .variable .result
+entry-is c = sym (rw (c .before .atom-address .ensures) at (c .variable .ensures))
 
-entry-requires : tie.Need-entry-requires
-entry-requires c κs =
+variable-requires : tie.Need-variable-requires
+variable-requires c κs =
     let s : tie.Start = c .before .before in
-    rw (c .atom-address .ensures) (formed-address (s .pre .0) (s .args .g) (s .pre .1))
+    omega (arith, c .atom-address .ensures, s .pre .0 .ready .variables-few, s .pre .0 .ready .atom-address (s .args .g) (s .pre .1))
 
 returns : tie.Need-returns
 returns c =
     let s : tie.Start = c .before .before .before .before in
-    (along-still (record { fields = λ i h sized known is. absurd (omega (arith, entry-is (c .before), c .if1 .taken)) }), s .pre .3)
+    (λ value. along-still (record { fields = λ i h sized known is. absurd (omega (arith, entry-is (c .before), c .if1 .taken)) }), s .pre .3)
 
 returns-2 : tie.Need-returns-2
 returns-2 c =
     let at : tie.After-record-at = c .before .before in
     let s : tie.Start = at .before .before .before .before .before in
     let past = is-nowhere (at .record-at .ensures) (omega (arith, c .before .record-count .ensures .0, c .if2 .taken)) in
-    (along-still (record { fields = λ i h sized known is. absurd (past i h (sym is ∙ entry-is (at .before .before))) }), s .pre .3)
+    (λ value. along-still (record { fields = λ i h sized known is. absurd (past i h (sym is ∙ entry-is (at .before .before))) }), s .pre .3)
 
 -- the record that was found is one of the heap's
 found-below : (c : tie.Else2) → c .before .before .record-at .result < recordCount (c .before .before .before .before .before .before .before .args .heap .now)
@@ -55,7 +50,7 @@ returns-3 c =
     let s : tie.Start = at .before .before .before .before .before in
     let heap = s .args .heap .now in
     let there = is-there (at .record-at .ensures) (found-below found) in (
-      along-still (record {
+      λ value. along-still (record {
         fields = λ i h sized known is.
             let same = one-record heap (s .pre .2) (at .record-at .result) i (found-below found) h (there ∙ sym (entry-is (at .before .before)) ∙ is) in
             absurd (omega (arith, c .if3 .taken, c .before .record-size .ensures .0, ap (recordSize heap) same, c .before .before .atom-size .ensures .0));
@@ -80,10 +75,10 @@ returns-4 c =
     let sized : tie.After-atom-size = c .before .before .before .before .before in
     let found : tie.Else2 = sized .before in
     let at : tie.After-record-at = found .before .before in
-    let entered : tie.After-entry = at .before .before in
+    let entered : tie.After-variable = at .before .before in
     let s : tie.Start = entered .before .before .before in
     let g = s .args in (
-      along-record (g .rules .now) (g .rule) (g .heap .now) (g .g) (s .pre .0) (s .pre .1) (s .pre .2) (g .values .now) (c .learn-fields .last .1 .1 .1 .1 .1 .0)
+      λ value. along-record value (g .rules .now) (g .rule) (g .heap .now) (g .g) (s .pre .0) (s .pre .1) (s .pre .2) (g .values .now) (c .learn-fields .last .1 .1 .1 .1 .1 .0)
           (at .record-at .result) (found-below found)
           (omega (arith, entry-is entered, at .before .if1 .left)) (entry-is entered ∙ sym (is-there (at .record-at .ensures) (found-below found)))
           (rw (c .before .before .atom-fields .ensures, sized .atom-size .ensures .0) at (c .learn-fields .ensures .0)),
@@ -93,5 +88,5 @@ returns-4 c =
 pub along-atom-spec : {M : Type 1} → statement M
 along-atom-spec =
     tie.close
-    (tie.spec (λ c κs. search needs) entry-requires returns (λ c κs. search needs) (λ c κs. search needs) returns-2 (λ c κs. search needs)
+    (tie.spec (λ c κs. search needs) variable-requires returns (λ c κs. search needs) (λ c κs. search needs) returns-2 (λ c κs. search needs)
     record-size-requires returns-3 (λ c κs. search needs) learn-fields-requires returns-4)

@@ -1,12 +1,12 @@
 -- `along_atoms` goes along the points-to atoms one by one.
 use mathlib.Core.Path.{_≡_}
-use Prim.Native.Nat.{_-_, _≤_}
+use Prim.Native.Nat.{ℕ, _-_, _≤_}
 use native.Mathlib.Omega.{arith}
 use borrow.Author.Needs.{needs}
 use Rattle.block.specs.Layout.{atomCount}
 use Rattle.block.specs.Ready.{variablesIn}
 use Rattle.finding.specs.Values.{Counted}
-use Rattle.finding.specs.Links.{AtomHas, AtomClosed, AlongEach}
+use Rattle.finding.specs.Links.{AtomHas, AtomClosed, AlongAtomsAs}
 use Rattle.finding.proofs.Learning.{along-none, along-more}
 use Rattle.finding.proofs.Fields.{atom-stays}
 use Rattle.finding.proofs.links.along_atoms.Statement.{statement}
@@ -14,7 +14,7 @@ use Rattle.finding.proofs.links.along_atoms.Tie as tie
 
 abbrev Inv-loop : tie.InvT-loop
 Inv-loop rules rule heap values₀ unknown count left₀ g₀ values left g =
-    (g ≤ count) × AlongEach g (variablesIn rules rule) (AtomHas rules rule heap) (AtomClosed rules rule heap) values₀ values × Counted values left
+    (g ≤ count) × ((value : ℕ → ℕ) → AlongAtomsAs g value rules rule heap values₀ values) × Counted values left
 
 abbrev μ-loop : tie.MeasureT-loop
 μ-loop rules rule heap values₀ unknown count left₀ g₀ values left g = count - g
@@ -25,7 +25,7 @@ loop-holds c =
     let rules = s .args .rules .now in
     let rule = s .args .rule in
     let heap = s .args .heap .now in
-    (omega arith, along-none (variablesIn rules rule) (AtomHas rules rule heap) (AtomClosed rules rule heap) (s .args .values .now), s .pre .2)
+    (omega arith, λ value. along-none (variablesIn rules rule) (AtomHas value rules rule heap) (AtomClosed rules rule heap) (s .args .values .now), s .pre .2)
 
 along-atom-requires : tie.Need-along-atom-requires Inv-loop μ-loop
 along-atom-requires c κs =
@@ -41,8 +41,8 @@ loop-again c =
     let rule = s .args .rule in
     let heap = s .args .heap .now in (
       omega arith,
-      along-more (variablesIn rules rule) (AtomHas rules rule heap) (AtomClosed rules rule heap) (atom-stays rules rule heap) (l .loop .g) (s .args .values .now)
-          (l .loop .values) (c .along-atom .last .1 .1 .1 .1 .0) (l .loop .inv .1) (c .along-atom .ensures .0),
+      λ value. along-more (variablesIn rules rule) (AtomHas value rules rule heap) (AtomClosed rules rule heap) (atom-stays rules rule heap) (l .loop .g) (s .args .values .now)
+          (l .loop .values) (c .along-atom .last .1 .1 .1 .1 .0) (l .loop .inv .1 value) (c .along-atom .ensures .0 value),
       c .along-atom .ensures .1,
     )
 

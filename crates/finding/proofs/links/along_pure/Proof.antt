@@ -3,9 +3,10 @@ use mathlib.Core.{Path._≡_, Logic._≢_}
 use native.Mathlib.Omega.{arith}
 use borrow.Author.Needs.{needs}
 use Rattle.semantics.specs.Tree.{valueOf}
-use Rattle.block.specs.Layout.{termIn, pureKind, pureLeft, pureRight}
+use Rattle.block.specs.Layout.{termAs, fixedIn, pureKind, pureLeft, pureRight}
 use Rattle.block.proofs.Scopes.{formed-left, formed-right}
-use Rattle.finding.proofs.Learning.{along-still}
+use Rattle.block.specs.Ready.{variablesIn}
+use Rattle.finding.proofs.{Learning.along-still, Known.valued-small}
 use Rattle.finding.proofs.Equalities.{along-right, along-left}
 use Rattle.finding.proofs.links.along_pure.Statement.{statement}
 use Rattle.finding.proofs.links.along_pure.Tie as tie
@@ -19,7 +20,7 @@ returns c =
 entry-requires : tie.Need-entry-requires
 entry-requires c κs =
     let s : tie.Start = c .before .before .before .before .before in
-    rw (c .before .before .pure-left .ensures) (formed-left (s .pre .0) (s .args .k) (s .pre .1))
+    (rw (c .before .before .pure-left .ensures) (formed-left (s .pre .0) (s .args .k) (s .pre .1)), s .pre .3)
 
 learn-requires : tie.Need-learn-requires
 learn-requires c κs =
@@ -29,12 +30,12 @@ learn-requires c κs =
 
 -- what was read of each side is its value
 left-is : (c : tie.After-entry)
-    → let g = c .before .before .before .before .before .before .args in c .entry .result ≡ valueOf (g .values .now) (termIn (pureLeft (g .rules .now) (g .rule) (g .k)))
+    → let g = c .before .before .before .before .before .before .args in c .entry .result ≡ valueOf (g .values .now) (termAs (fixedIn (g .given .now)) (pureLeft (g .rules .now) (g .rule) (g .k)))
 left-is c = rw (c .before .before .before .pure-left .ensures) at (c .entry .ensures)
 
 right-is : (c : tie.After-entry2)
     → let g = c .before .before .before .before .before .before .before .before .before .args in
-    c .entry2 .result ≡ valueOf (g .values .now) (termIn (pureRight (g .rules .now) (g .rule) (g .k)))
+    c .entry2 .result ≡ valueOf (g .values .now) (termAs (fixedIn (g .given .now)) (pureRight (g .rules .now) (g .rule) (g .k)))
 right-is c = rw (c .before .before .before .before .before .pure-right .ensures) at (c .entry2 .ensures)
 
 returns-2 : tie.Need-returns-2
@@ -44,7 +45,7 @@ returns-2 c =
     let s : tie.Start = right .before .before .before .before in
     let g = s .args in
     let is = left-is x in (
-      along-right (g .rules .now) (g .rule) (g .k) (s .pre .0) (s .pre .1) (omega (arith, right .before .before .before .pure-kind .ensures, right .before .before .if1 .left))
+      along-right (fixedIn (g .given .now)) (g .rules .now) (g .rule) (g .k) (s .pre .0) (s .pre .1) (omega (arith, right .before .before .before .pure-kind .ensures, right .before .before .if1 .left))
           (s .pre .2 .eight) (omega (arith, is, c .before .before .if2 .taken)) (rw (is, right .pure-right .ensures) at (c .learn .ensures .0)),
       c .learn .ensures .1,
     )
@@ -53,7 +54,7 @@ entry-requires-2 : tie.Need-entry-requires-2
 entry-requires-2 c κs =
     let right : tie.After-pure-right = c .before .before .before .before in
     let s : tie.Start = right .before .before .before .before in
-    rw (right .pure-right .ensures) (formed-right (s .pre .0) (s .args .k) (s .pre .1))
+    (rw (right .pure-right .ensures) (formed-right (s .pre .0) (s .args .k) (s .pre .1)), s .pre .3)
 
 learn-requires-2 : tie.Need-learn-requires-2
 learn-requires-2 c κs =
@@ -68,7 +69,7 @@ returns-3 c =
     let s : tie.Start = right .before .before .before .before in
     let g = s .args in
     let is = right-is y in (
-      along-left (g .rules .now) (g .rule) (g .k) (s .pre .0) (s .pre .1) (omega (arith, right .before .before .before .pure-kind .ensures, right .before .before .if1 .left))
+      along-left (fixedIn (g .given .now)) (g .rules .now) (g .rule) (g .k) (s .pre .0) (s .pre .1) (omega (arith, right .before .before .before .pure-kind .ensures, right .before .before .if1 .left))
           (s .pre .2 .eight) (omega (arith, is, c .before .before .if3 .taken)) (rw (is, right .before .pure-left .ensures) at (c .learn2 .ensures .0)),
       c .learn2 .ensures .1,
     )
@@ -76,10 +77,11 @@ returns-3 c =
 returns-4 : tie.Need-returns-4
 returns-4 c =
     let x : tie.After-entry = c .before .before .before .before in
-    let s : tie.Start = x .before .before .before .before .before .before in (
+    let s : tie.Start = x .before .before .before .before .before .before in
+    let small = valued-small (s .args .values .now) (variablesIn (s .args .rules .now) (s .args .rule)) (fixedIn (s .args .given .now)) (s .pre .0 .ready .variables-few) in (
       along-still (record {
-        to-right = λ e v. absurd (omega (arith, left-is x, c .before .before .before .if2 .left));
-        to-left = λ e v. absurd (omega (arith, right-is (c .before), c .if3 .left));
+        to-right = λ e v. absurd (omega (arith, left-is x, c .before .before .before .if2 .left, small _ (s .pre .0 .ready .pure-left (s .args .k) (s .pre .1)) v));
+        to-left = λ e v. absurd (omega (arith, right-is (c .before), c .if3 .left, small _ (s .pre .0 .ready .pure-right (s .args .k) (s .pre .1)) v));
       }),
       s .pre .2,
     )

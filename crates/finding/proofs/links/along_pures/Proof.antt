@@ -3,7 +3,7 @@ use mathlib.Core.Path.{_≡_}
 use Prim.Native.Nat.{_-_, _≤_}
 use native.Mathlib.Omega.{arith}
 use borrow.Author.Needs.{needs}
-use Rattle.block.specs.Layout.{pureCount}
+use Rattle.block.specs.Layout.{pureCount, fixedIn}
 use Rattle.block.specs.Ready.{variablesIn}
 use Rattle.finding.specs.Values.{Counted}
 use Rattle.finding.specs.Links.{PureMet, PureClosed, AlongEach}
@@ -13,23 +13,23 @@ use Rattle.finding.proofs.links.along_pures.Statement.{statement}
 use Rattle.finding.proofs.links.along_pures.Tie as tie
 
 abbrev Inv-loop : tie.InvT-loop
-Inv-loop rules rule values₀ unknown count left₀ k₀ values left k =
-    (k ≤ count) × AlongEach k (variablesIn rules rule) (PureMet rules rule) (PureClosed rules rule) values₀ values × Counted values left
+Inv-loop rules rule values₀ unknown given count left₀ k₀ values left k =
+    (k ≤ count) × AlongEach k (variablesIn rules rule) (PureMet (fixedIn given) rules rule) (PureClosed rules rule) values₀ values × Counted values left
 
 abbrev μ-loop : tie.MeasureT-loop
-μ-loop rules rule values₀ unknown count left₀ k₀ values left k = count - k
+μ-loop rules rule values₀ unknown given count left₀ k₀ values left k = count - k
 
 loop-holds : tie.Need-loop-holds Inv-loop μ-loop
 loop-holds c =
     let s : tie.Start Inv-loop μ-loop = c .before in
     let rules = s .args .rules .now in
     let rule = s .args .rule in
-    (omega arith, along-none (variablesIn rules rule) (PureMet rules rule) (PureClosed rules rule) (s .args .values .now), s .pre .1)
+    (omega arith, along-none (variablesIn rules rule) (PureMet (fixedIn (s .args .given .now)) rules rule) (PureClosed rules rule) (s .args .values .now), s .pre .1)
 
 along-pure-requires : tie.Need-along-pure-requires Inv-loop μ-loop
 along-pure-requires c κs =
     let l : tie.At-loop Inv-loop μ-loop = c .before .before in
-    (l .before .before .pre .0, omega (arith, l .before .pure-count .ensures .0), l .loop .inv .2)
+    (l .before .before .pre .0, omega (arith, l .before .pure-count .ensures .0), l .loop .inv .2, l .before .before .pre .2)
 
 loop-again : tie.Need-loop-again Inv-loop μ-loop
 loop-again c =
@@ -38,7 +38,7 @@ loop-again c =
     let rules = s .args .rules .now in
     let rule = s .args .rule in (
       omega arith,
-      along-more (variablesIn rules rule) (PureMet rules rule) (PureClosed rules rule) (pure-stays rules rule) (l .loop .k) (s .args .values .now)
+      along-more (variablesIn rules rule) (PureMet (fixedIn (s .args .given .now)) rules rule) (PureClosed rules rule) (pure-stays rules rule) (l .loop .k) (s .args .values .now)
           (l .loop .values) (c .along-pure .last .1 .1 .1 .0) (l .loop .inv .1) (c .along-pure .ensures .0),
       c .along-pure .ensures .1,
     )

@@ -20,7 +20,7 @@ abbrev μ-loop : tie.MeasureT-loop
 loop-holds : tie.Need-loop-holds Inv-loop μ-loop
 loop-holds c =
     let g = c .args in
-    (omega arith, λ n. along-none n (FieldIs (g .rules .now) (g .terms) (g .heap .now) (g .i)) (FieldKnown (g .rules .now) (g .terms)) (g .values .now), c .pre .3)
+    (omega arith, λ value n. along-none n (FieldIs value (g .rules .now) (g .terms) (g .heap .now) (g .i)) (FieldKnown (g .rules .now) (g .terms)) (g .values .now), c .pre .3)
 
 learn-requires : tie.Need-learn-requires Inv-loop μ-loop
 learn-requires c κs =
@@ -32,10 +32,10 @@ loop-again c =
     let l : tie.At-loop Inv-loop μ-loop = c .before .before .before .before .before in
     let g = l .before .args in (
       omega arith,
-      λ n.
-          along-more n (FieldIs (g .rules .now) (g .terms) (g .heap .now) (g .i)) (FieldKnown (g .rules .now) (g .terms)) (field-stays (g .rules .now) (g .terms))
-          (l .loop .j) (g .values .now) (l .loop .values) (c .learn .last .0) (l .loop .inv .1 n)
-          (learnt-along (l .loop .inv .2 .eight) (omega (arith, c .before .field .ensures)) (rw (c .before .field .ensures .0) at (c .learn .ensures .0)) n),
+      λ value n.
+          along-more n (FieldIs value (g .rules .now) (g .terms) (g .heap .now) (g .i)) (FieldKnown (g .rules .now) (g .terms)) (field-stays (g .rules .now) (g .terms))
+          (l .loop .j) (g .values .now) (l .loop .values) (c .learn .last .0) (l .loop .inv .1 value n)
+          (learnt-along value (l .loop .inv .2 .eight) (omega (arith, c .before .field .ensures)) (rw (c .before .field .ensures .0) at (c .learn .ensures .0)) n),
       c .learn .ensures .1,
     )
 

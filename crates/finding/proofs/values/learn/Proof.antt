@@ -6,7 +6,6 @@ use lib.ListN.{length-set}
 use borrow.Author.Needs.{needs}
 use Rattle.block.specs.Ready.{Scoped}
 use Rattle.finding.specs.Values.Learnt.{kept, given}
-use Rattle.block.proofs.TermsInBlock.{term-variable, term-fixed}
 use Rattle.finding.proofs.Opens.{opens-less}
 use Rattle.finding.proofs.values.learn.Statement.{statement}
 use Rattle.finding.proofs.values.learn.Tie as tie
@@ -44,12 +43,12 @@ returns c =
 returns-2 : tie.Need-returns-2
 returns-2 c =
     let s = c .before .before .before in
-    (kept (omega (arith, term-variable (s .args .values .now) (s .args .term) (c .before .before .if1 .taken), c .if2 .left)) refl, s .pre .2)
+    (kept (λ l. omega (arith, c .if2 .left)) refl, s .pre .2)
 
 returns-3 : tie.Need-returns-3
 returns-3 c =
     let s = c .before in
-    (kept (omega (arith, term-fixed (s .args .values .now) (s .args .term) (c .if1 .left))) refl, s .pre .2)
+    (kept (λ l. absurd (omega (arith, c .if1 .left))) refl, s .pre .2)
 
 pub learn-spec : {M : Type 1} → statement M
 learn-spec =

@@ -1,11 +1,21 @@
 -- `attempt` asks for what a choice needs, one after the other; the first that is missing rules the choice out.
 use borrow.Author.Needs.{needs}
-use mathlib.Core.Path.{refl, sym, _∙_}
+use mathlib.Core.Path.{refl}
 use native.Mathlib.Omega.{arith}
+use Rattle.finding.proofs.Shapes.{shaped}
 use Rattle.walk.specs.Walk.Attempts.{nothing}
 use Rattle.walk.proofs.Trying.{not-served, not-found, not-met-values, attempts-take}
 use Rattle.walk.proofs.choosing.attempt.Statement.{statement}
 use Rattle.walk.proofs.choosing.attempt.Tie as tie
+
+find-requires : tie.Need-find-requires
+find-requires c κs = let s = c .before .before .before .before in (s .pre .1 .formed, s .pre .0 .heap-formed, s .pre .2, s .pre .0 .rules-read .constants-few)
+
+pures-hold-requires : tie.Need-pures-hold-requires
+pures-hold-requires c κs = let s = c .before .before .before .before .before .before .before in (s .pre .1 .formed, s .pre .0 .rules-read .constants-few)
+
+take-requires : tie.Need-take-requires
+take-requires c κs = let s = c .before .before .before .before .before .before .before .before .before .before in (s .pre .1 .formed, s .pre .0 .heap-formed, s .pre .0 .rules-read .constants-few)
 
 returns : tie.Need-returns
 returns c =
@@ -42,4 +52,4 @@ returns-4 c =
 pub attempt-spec : {M : Type 1} → statement M
 attempt-spec =
     tie.close
-    (tie.spec (λ c κs. c .pre .1 .formed) (λ c κs. search needs) (λ c κs. search needs) (λ c κs. search needs) returns returns-2 returns-3 returns-4)
+    (tie.spec (λ c κs. shaped (c .pre .1 .formed)) find-requires pures-hold-requires take-requires returns returns-2 returns-3 returns-4)

@@ -3,17 +3,17 @@ use borrow.Author.{Needs.needs, Count.below-none, Count.below-more}
 use Prim.Native.Nat.{ℕ, _-_, _≤_, _<_}
 use native.Mathlib.Omega.{arith}
 use Rattle.semantics.specs.Tree.{Meets}
-use Rattle.block.specs.Layout.{pureIn, purePlace}
+use Rattle.block.specs.Layout.{pureAs, fixedIn, purePlace}
 use Rattle.words.proofs.Answers.{told-true, told-false}
 use Rattle.walk.proofs.taking.pures_hold.Statement.{statement}
 use Rattle.walk.proofs.taking.pures_hold.Tie as tie
 
 abbrev Inv-loop : tie.InvT-loop
-Inv-loop rules rule values count k₀ k =
-    (k ≤ count) × ((j : ℕ) → j < k → Meets values (pureIn rules (purePlace rule j)))
+Inv-loop rules rule values given count k₀ k =
+    (k ≤ count) × ((j : ℕ) → j < k → Meets values (pureAs (fixedIn given) rules (purePlace rule j)))
 
 abbrev μ-loop : tie.MeasureT-loop
-μ-loop rules rule values count k₀ k = count - k
+μ-loop rules rule values given count k₀ k = count - k
 
 loop-again : tie.Need-loop-again Inv-loop μ-loop
 loop-again c = (omega arith, below-more _ _ (c .before .before .before .loop .inv .1) (c .before .pure-holds .ensures .so (c .if1 .taken)))

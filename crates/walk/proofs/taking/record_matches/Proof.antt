@@ -1,6 +1,7 @@
 -- `record_matches` compares the numbers of fields, then the fields; the address is given.
 use borrow.Author.Needs.{needs}
 use native.Mathlib.Omega.{arith}
+use Rattle.block.specs.Layout.{fixedIn}
 use Rattle.words.proofs.Answers.{told-false}
 use Rattle.block.proofs.{Scopes.formed-fields, TermsInBlock.size-asked, TermsInBlock.record-told}
 use Rattle.walk.proofs.taking.record_matches.Statement.{statement}
@@ -17,7 +18,7 @@ returns c =
       arith,
       c .if1 .taken,
       c .before .record-size .ensures .0,
-      size-asked (g .rules .now) (g .rule) (g .g) (g .values .now) (g .heap .now) (g .i) e,
+      size-asked (fixedIn (g .given .now)) (g .rules .now) (g .rule) (g .g) (g .values .now) (g .heap .now) (g .i) e,
       c .before .before .atom-size .ensures .0,
     )))
 
@@ -28,6 +29,7 @@ fields-match-requires c κs =
       rw (c .atom-fields .ensures) (formed-fields (s .pre .0) (s .args .g) (sized .atom-size .result) (s .pre .1) (sized .atom-size .ensures .0)),
       s .pre .2,
       omega (arith, sized .atom-size .ensures, s .pre .0 .ready .atom-count (s .args .g) (s .pre .1)),
+      s .pre .4,
     )
 
 returns-2 : tie.Need-returns-2
@@ -36,7 +38,7 @@ returns-2 c =
     let sized : tie.After-atom-size = compared .before in
     let s : tie.Start = sized .before in
     let g = s .args in
-    record-told (g .rules .now) (g .rule) (g .g) (g .values .now) (g .heap .now) (g .i) (s .pre .3)
+    record-told (fixedIn (g .given .now)) (g .rules .now) (g .rule) (g .g) (g .values .now) (g .heap .now) (g .i) (s .pre .3)
     (omega (arith, compared .record-size .ensures .0, c .before .before .if1 .left, sized .atom-size .ensures .0))
     (rw (c .before .atom-fields .ensures, sized .atom-size .ensures .0) at (c .fields-match .ensures))
 

@@ -4,18 +4,18 @@ use mathlib.Core.Path.{refl}
 use Prim.Native.Nat.{_-_, _≤_}
 use native.Mathlib.Omega.{arith}
 use Rattle.semantics.proofs.WalkLoops.{AtomsLeft, atoms-start, atoms-end}
-use Rattle.block.specs.Layout.{heapIn, ruleIn}
+use Rattle.block.specs.Layout.{heapIn, ruleAs, fixedIn}
 use Rattle.walk.specs.Taking.TakesAll.{taken, stuck}
 use Rattle.walk.proofs.TakingRecords.{atom-here, atoms-past, taken-next, stuck-stop}
 use Rattle.walk.proofs.taking.take.Statement.{statement}
 use Rattle.walk.proofs.taking.take.Tie as tie
 
 abbrev Inv-loop : tie.InvT-loop
-Inv-loop rules rule values heap mask count after₀ g₀ after g =
-    (g ≤ count) × AtomsLeft (heapIn heap) values (ruleIn rules rule .points-to) mask g after
+Inv-loop rules rule values heap mask given count after₀ g₀ after g =
+    (g ≤ count) × AtomsLeft (heapIn heap) values (ruleAs (fixedIn given) rules rule .points-to) mask g after
 
 abbrev μ-loop : tie.MeasureT-loop
-μ-loop rules rule values heap mask count after₀ g₀ after g = count - g
+μ-loop rules rule values heap mask given count after₀ g₀ after g = count - g
 
 loop-holds : tie.Need-loop-holds Inv-loop μ-loop
 loop-holds c = (omega arith, atoms-start)
@@ -25,7 +25,7 @@ returns c =
     let l : tie.At-loop Inv-loop μ-loop = c .before .before .before in
     let g = l .before .before .args in
     stuck (c .if1 .left)
-    (stuck-stop (l .loop .inv .1) (atom-here (g .rules .now) (g .rule) (l .loop .g) (omega (arith, l .before .atom-count .ensures .0))) (rw (c .if1 .left) at (c .before .take-record .ensures)))
+    (stuck-stop (l .loop .inv .1) (atom-here (fixedIn (g .given .now)) (g .rules .now) (g .rule) (l .loop .g) (omega (arith, l .before .atom-count .ensures .0))) (rw (c .if1 .left) at (c .before .take-record .ensures)))
 
 loop-again : tie.Need-loop-again Inv-loop μ-loop
 loop-again c =
@@ -33,7 +33,7 @@ loop-again c =
     let s = l .before .before in
     let g = s .args in (
       omega arith,
-      taken-next (l .loop .inv .1) (atom-here (g .rules .now) (g .rule) (l .loop .g) (omega (arith, l .before .atom-count .ensures .0))) (s .pre .1 .ordered)
+      taken-next (l .loop .inv .1) (atom-here (fixedIn (g .given .now)) (g .rules .now) (g .rule) (l .loop .g) (omega (arith, l .before .atom-count .ensures .0))) (s .pre .1 .ordered)
           (rw (c .if1 .taken) at (c .before .take-record .ensures)),
     )
 
@@ -41,7 +41,7 @@ returns-2 : tie.Need-returns-2 Inv-loop μ-loop
 returns-2 c =
     let l : tie.At-loop Inv-loop μ-loop = c .before in
     let g = l .before .before .args in
-    taken refl (atoms-end (l .loop .inv .1) (atoms-past (g .rules .now) (g .rule) (l .loop .g) (omega (arith, l .before .atom-count .ensures .0))))
+    taken refl (atoms-end (l .loop .inv .1) (atoms-past (fixedIn (g .given .now)) (g .rules .now) (g .rule) (l .loop .g) (omega (arith, l .before .atom-count .ensures .0))))
 
 pub take-spec : {M : Type 1} → statement M
 take-spec =

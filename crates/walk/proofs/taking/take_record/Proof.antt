@@ -6,28 +6,25 @@ use native.Mathlib.Omega.{arith}
 use lib.ListN.{length, getD}
 use Rattle.semantics.specs.Heap.{Disjoint}
 use Rattle.words.proofs.Disjoint.{sum-small}
-use Rattle.block.specs.Layout.{heapIn, atomAddress, recordCount, recordAddress}
-use Rattle.block.proofs.{HeapInBlock.heap-count, HeapInBlock.record-is, HeapInBlock.records-few, Scopes.formed-address, TermsInBlock.term-variable}
+use Rattle.block.specs.Layout.{heapIn, fixedIn, atomAddress, recordCount, recordAddress}
+use Rattle.block.proofs.{HeapInBlock.heap-count, HeapInBlock.record-is, HeapInBlock.records-few}
 use Rattle.finding.proofs.Addresses.{is-there}
 use Rattle.walk.specs.Taking.TakesFree.{taken, stuck}
 use Rattle.walk.proofs.TakingRecords.{Wanted, nowhere, only}
 use Rattle.walk.proofs.taking.take_record.Statement.{statement}
 use Rattle.walk.proofs.taking.take_record.Tie as tie
 
-entry-requires : tie.Need-entry-requires
-entry-requires c κs = rw (c .atom-address .ensures) (formed-address (c .before .pre .0) (c .before .args .g) (c .before .pre .1))
+variable-requires : tie.Need-variable-requires
+variable-requires c κs =
+    let s : tie.Start = c .before in
+    omega (arith, c .atom-address .ensures, s .pre .0 .ready .variables-few, s .pre .0 .ready .atom-address (s .args .g) (s .pre .1))
 
 -- the atom's address
 abbrev asks : tie.Start → ℕ
 asks s = getD (s .args .values .now) (atomAddress (s .args .rules .now) (s .args .rule) (s .args .g)) 0
 
-address : (c : tie.After-entry) → c .entry .result ≡ asks (c .before .before)
-address c =
-    let s : tie.Start = c .before .before in
-    let ready = s .pre .0 .ready in
-    rw (c .before .atom-address .ensures) at (c .entry .ensures)
-    ∙ sym (term-variable (s .args .values .now) (atomAddress (s .args .rules .now) (s .args .rule) (s .args .g))
-    (omega (arith, ready .variables-few, ready .atom-address (s .args .g) (s .pre .1))))
+address : (c : tie.After-variable) → c .variable .result ≡ asks (c .before .before)
+address c = rw (c .before .atom-address .ensures) at (c .variable .ensures)
 
 -- where there is a record at it
 below : (c : tie.Else1) → c .before .before .record-at .result < recordCount (c .before .before .before .before .before .args .heap .now)
@@ -43,11 +40,11 @@ there-is c =
 
 -- no other is asked for
 the-one : (c : tie.Else1) (k : ℕ) → let g = c .before .before .before .before .before .args in
-    k < length (heapIn (g .heap .now)) → Wanted (g .rules .now) (g .rule) (g .g) (g .values .now) (g .heap .now) k → k ≡ c .before .before .record-at .result
+    k < length (heapIn (g .heap .now)) → Wanted (fixedIn (g .given .now)) (g .rules .now) (g .rule) (g .g) (g .values .now) (g .heap .now) k → k ≡ c .before .before .record-at .result
 the-one c k low w =
     let s : tie.Start = c .before .before .before .before .before in
     let g = s .args in
-    only (g .rules .now) (g .rule) (g .g) (g .values .now) (g .heap .now) (s .pre .2) (c .before .before .record-at .result) (below c) (there-is c) k low w
+    only (fixedIn (g .given .now)) (g .rules .now) (g .rule) (g .g) (g .values .now) (g .heap .now) (s .pre .2) (c .before .before .record-at .result) (below c) (there-is c) k low w
 
 returns : tie.Need-returns
 returns c =
@@ -55,7 +52,7 @@ returns c =
     let g = at .before .before .before .args in
     stuck refl
     (λ k low w.
-    absurd (nowhere (g .rules .now) (g .rule) (g .g) (g .values .now) (g .heap .now) (address (at .before)) (at .record-at .ensures)
+    absurd (nowhere (fixedIn (g .given .now)) (g .rules .now) (g .rule) (g .g) (g .values .now) (g .heap .now) (address (at .before)) (at .record-at .ensures)
     (omega (arith, c .if1 .taken, c .before .record-count .ensures .0)) k low w))
 
 returns-2 : tie.Need-returns-2
@@ -67,14 +64,14 @@ record-matches-requires : tie.Need-record-matches-requires
 record-matches-requires c κs =
     let e : tie.Else1 = c .before .before .before in
     let s = e .before .before .before .before .before in
-    (s .pre .0, s .pre .1, few e, there-is e)
+    (s .pre .0, s .pre .1, few e, there-is e, s .pre .3)
 
 -- the record is free
 free : (c : tie.Else2) → Disjoint (c .before .before .bit .result) (c .before .before .before .before .before .before .before .before .args .mask)
 free c = c .before .shares .ensures .not-so (c .if2 .left)
 
-add-t15 : tie.Need-add-t15
-add-t15 c =
+add-t16 : tie.Need-add-t16
+add-t16 c =
     let s = c .before .before .before .before .before .before .before .before .before .before in
     let small = sum-small (c .before .before .before .before .bit .result) (s .args .mask) (omega (arith, c .before .before .before .before .bit .ok)) (omega arith) (free (c .before .before)) in
     omega (arith, small)
@@ -99,5 +96,5 @@ returns-4 c =
 pub take-record-spec : {M : Type 1} → statement M
 take-record-spec =
     tie.close
-    (tie.spec (λ c κs. search needs) entry-requires (λ c κs. search needs) (λ c κs. search needs) returns (λ c κs. few c) (λ c κs. search needs)
-    returns-2 record-matches-requires add-t15 returns-3 returns-4)
+    (tie.spec (λ c κs. search needs) variable-requires (λ c κs. search needs) (λ c κs. search needs) returns (λ c κs. few c) (λ c κs. search needs)
+    returns-2 record-matches-requires add-t16 returns-3 returns-4)

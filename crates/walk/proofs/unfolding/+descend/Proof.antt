@@ -2,13 +2,13 @@
 -- unfolded one after the other: what those that are left come to from the mask of the moment, all come to from the mask after the choice. The
 -- fuel is the measure.
 use borrow.Author.Needs.{needs}
-use mathlib.Core.{Bool.true, Bool.false, Path._≡_, Path.refl, Path.sym, Path.ap, Path._∙_}
+use mathlib.Core.{Path._∙_}
 use Prim.Native.Nat.{ℕ, _-_, _≤_, _<_}
 use native.Mathlib.Omega.{arith}
 use borrow.Fn.{Kinds.In, PlainCycle.Measures, PlainCycle.is, PlainCycle.falls, PlainCycle.and}
 use Rattle.semantics.proofs.{WalkSteps.fuel-stop, WalkSteps.node-stop, WalkLoops.CallsLeft, WalkLoops.left-start, WalkLoops.left-end, WalkLoops.left-stop, WalkLoops.left-next}
-use Rattle.block.specs.Layout.{ruleIn, ruleSetIn, heapIn}
-use Rattle.walk.specs.Walk.{valuesIn, ChosenAt}
+use Rattle.block.specs.Layout.{ruleAs, ruleSetRead, fixedIn, heapIn}
+use Rattle.walk.specs.Walk.{valuesIn}
 use Rattle.walk.proofs.Descending.{call-here, calls-past, call-outcome, chosen-outcome, choice-made, choice-none}
 use Rattle.walk.proofs.unfolding.descend.Reads as descend
 use Rattle.walk.proofs.unfolding.descend.Kinds as descend-kinds
@@ -21,21 +21,21 @@ use Rattle.words.proofs.wide.Reads as wide-reads
 use Rattle.walk.proofs.unfolding.+descend.{statement}
 use Rattle.walk.proofs.unfolding.+descend.Tie.{close}
 
-abbrev μ-descend : Measures 3 descend-kinds.ps ℕ
+abbrev μ-descend : Measures 4 descend-kinds.ps ℕ
 μ-descend κs a = a .1 .1 .1 .1 .1 .0
 
-abbrev descend-at : ℕ → In 3 descend-kinds.ps
-descend-at t = and 3 descend-kinds.ps (is 3 descend-kinds.ps μ-descend t) descend.Pre
+abbrev descend-at : ℕ → In 4 descend-kinds.ps
+descend-at t = and 4 descend-kinds.ps (is 4 descend-kinds.ps μ-descend t) descend.Pre
 
-abbrev descend-below : ℕ → In 3 descend-kinds.ps
-descend-below t = and 3 descend-kinds.ps (falls 3 descend-kinds.ps _<_ μ-descend t) descend.Pre
+abbrev descend-below : ℕ → In 4 descend-kinds.ps
+descend-below t = and 4 descend-kinds.ps (falls 4 descend-kinds.ps _<_ μ-descend t) descend.Pre
 
 abbrev descend-Inv-loop : descend-lts.InvT-loop
-descend-Inv-loop rules heap predicate arguments mask fuel values rule count after₀ c₀ after c =
-    (c ≤ count) × CallsLeft (ruleSetIn rules) (heapIn heap) (fuel - 1) (valuesIn rules rule values) (ruleIn rules rule .calls) after₀ c after
+descend-Inv-loop rules heap predicate arguments mask fuel given values rule count after₀ c₀ after c =
+    (c ≤ count) × CallsLeft (ruleSetRead given rules) (heapIn heap) (fuel - 1) (valuesIn rules rule values) (ruleAs (fixedIn given) rules rule .calls) after₀ c after
 
 abbrev descend-μ-loop : descend-lts.MeasureT-loop
-descend-μ-loop rules heap predicate arguments mask fuel values rule count after₀ c₀ after c = count - c
+descend-μ-loop rules heap predicate arguments mask fuel given values rule count after₀ c₀ after c = count - c
 
 -- What is asked and learnt at each call.
 abbrev claims : ℕ → descend-lts.Claims
@@ -107,7 +107,7 @@ module _ (t : ℕ) where
         made .place,
         omega (arith, c .before .before .before .loop-test .taken, l .before .call-count .ensures .0),
         made .all-known,
-        entry (choosing l) .pre .1 .0 .rules-formed,
+        entry (choosing l) .pre .1 .0 .rules-read,
       )
 
   descend-descend-requires : descend-lts.Need-descend-requires (claims t) (descend-at t) descend.Post descend-Inv-loop descend-μ-loop
@@ -131,9 +131,9 @@ module _ (t : ℕ) where
       let l : Turn = turn d in
       let g = entry (choosing l) .args in
       let made = choice-made (choosing l .choose .ensures) (l .before .before .if2 .taken) in
-      let here = call-here (g .rules .now) (choosing l .choose .result .rule) (l .loop .c) (omega (arith, d .before .before .before .before .before .before .loop-test .taken, l .before .call-count .ensures .0)) in
+      let here = call-here (fixedIn (g .given .now)) (g .rules .now) (choosing l .choose .result .rule) (l .loop .c) (omega (arith, d .before .before .before .before .before .before .loop-test .taken, l .before .call-count .ensures .0)) in
       let called =
-      call-outcome (g .rules .now) (g .heap .now) (choosing l .choose .result .rule) (l .loop .c) _
+      call-outcome (g .given .now) (g .rules .now) (g .heap .now) (choosing l .choose .result .rule) (l .loop .c) _
       (d .before .before .before .before .wide .ensures .0 ∙ d .before .before .before .before .before .call-predicate .ensures) (d .before .before .call-arguments .ensures) (d .descend .ensures) (c .if3 .left) in
       record {
         outcome = rw (c .if3 .left)
@@ -145,9 +145,9 @@ module _ (t : ℕ) where
       let d : Called = c .before in
       let l : Turn = turn d in
       let g = entry (choosing l) .args in
-      let here = call-here (g .rules .now) (choosing l .choose .result .rule) (l .loop .c) (omega (arith, d .before .before .before .before .before .before .loop-test .taken, l .before .call-count .ensures .0)) in
+      let here = call-here (fixedIn (g .given .now)) (g .rules .now) (choosing l .choose .result .rule) (l .loop .c) (omega (arith, d .before .before .before .before .before .before .loop-test .taken, l .before .call-count .ensures .0)) in
       let called =
-      call-outcome (g .rules .now) (g .heap .now) (choosing l .choose .result .rule) (l .loop .c) _
+      call-outcome (g .given .now) (g .rules .now) (g .heap .now) (choosing l .choose .result .rule) (l .loop .c) _
       (d .before .before .before .before .wide .ensures .0 ∙ d .before .before .before .before .before .call-predicate .ensures) (d .before .before .call-arguments .ensures) (d .descend .ensures) (c .if3 .taken) in
       (omega (arith, d .before .before .before .before .before .before .loop-test .taken), left-next (l .loop .inv .1) here (entry (choosing l) .pre .1 .0 .heap-formed .ordered) called)
 
@@ -158,7 +158,7 @@ module _ (t : ℕ) where
       let l : Turn = c .before in
       let g = entry (choosing l) .args in
       let made = choice-made (choosing l .choose .ensures) (l .before .before .if2 .taken) in
-      let past = calls-past (g .rules .now) (choosing l .choose .result .rule) (l .loop .c) (omega (arith, l .before .call-count .ensures .0)) in
+      let past = calls-past (fixedIn (g .given .now)) (g .rules .now) (choosing l .choose .result .rule) (l .loop .c) (omega (arith, l .before .call-count .ensures .0)) in
       record { outcome = chosen-outcome (entry (choosing l) .pre .1 .0) (choosing l .before .before .if1 .left) made (left-end (l .loop .inv .1) past) }
 
   descend-returns-4 : descend-lts.Need-returns-4 (claims t) (descend-at t) descend.Post descend-Inv-loop descend-μ-loop
