@@ -123,10 +123,11 @@ fn line(problem: &Problem, domain: &Domain, words: &[u64], number: usize) -> Res
         }
     }
 
-    let value = |term: Term| match term {
-        Term::Number(number) => number as u64,
-        Term::Variable(variable) => domain.values()[variables[variable]],
-    };
+    let values: Vec<u64> = variables
+        .iter()
+        .map(|&position| domain.values()[position])
+        .collect();
+    let value = |term: Term| term.value(&values);
     for pure in &rule.pure {
         let holds = match pure.kind {
             Kind::Equal => value(pure.left) == value(pure.right),
@@ -139,7 +140,7 @@ fn line(problem: &Problem, domain: &Domain, words: &[u64], number: usize) -> Res
 
     let mut used = 0u16;
     for cell in &rule.cells {
-        let address = value(Term::Variable(cell.address));
+        let address = values[cell.address];
         let record = problem
             .heap
             .records

@@ -23,8 +23,9 @@ impl Domain {
     /// The values that occur, and that many unused ones from the bottom up.
     pub fn with_spares(problem: &Problem, spares: usize) -> Domain {
         let mut kept = BTreeSet::from([0]);
-        kept.extend(problem.rules.constants.iter().map(|&value| value as u64));
         kept.extend(problem.query.values.iter().map(|&value| value as u64));
+        // All that are listed, whether a rule names them or not.
+        kept.extend(problem.rules.constants.iter().map(|&value| value as u64));
         for record in &problem.heap.records {
             kept.insert(record.address as u64);
             kept.extend(record.fields.iter().map(|&field| field as u64));

@@ -22,12 +22,33 @@ impl Refusal {
     }
 }
 
-/// Nil is the number 0, and a constant is the number it stands for: only values
-/// matter, so from here on a constant 0 and nil are the same.
 #[derive(Clone, Copy, Debug, PartialEq, Eq)]
 pub enum Term {
-    Number(u32),
+    Nil,
+    /// A constant by its value, since nothing depends on its place in the list.
+    Constant(u32),
     Variable(usize),
+}
+
+impl Term {
+    /// The number that the term stands for by itself; a variable has none. Nil
+    /// and a constant of 0 are the same here.
+    pub fn number(self) -> Option<u64> {
+        match self {
+            Term::Nil => Some(0),
+            Term::Constant(value) => Some(value as u64),
+            Term::Variable(_) => None,
+        }
+    }
+
+    /// The term's value, given the values of the variables.
+    pub fn value(self, values: &[u64]) -> u64 {
+        match self {
+            Term::Nil => 0,
+            Term::Constant(value) => value as u64,
+            Term::Variable(variable) => values[variable],
+        }
+    }
 }
 
 #[derive(Clone, Copy, Debug, PartialEq, Eq)]
@@ -70,7 +91,7 @@ pub struct Rule {
 pub struct RuleSet {
     /// Number of arguments of each predicate.
     pub arities: Vec<usize>,
-    /// As they are listed, whether or not a rule names them.
+    /// As the book lists them: there may be equal ones, and 0.
     pub constants: Vec<u32>,
     pub rules: Vec<Rule>,
 }
@@ -110,7 +131,7 @@ const MAX_CELLS: usize = 4;
 const MAX_CALLS: usize = 3;
 const MAX_RECORDS: usize = 16;
 const MAX_FIELDS: usize = 4;
-const FIRST_CONSTANT: usize = 128;
+const FIRST_CONSTANT_BYTE: usize = 128;
 const NIL_BYTE: usize = 255;
 
 /// Bytes with a place in them. `ends` is the refusal for a missing byte,
@@ -204,7 +225,7 @@ fn read_rule(reader: &mut Reader, arities: &[usize], constants: &[u32]) -> Resul
     for _ in 0..reader.count(0, MAX_CELLS, Refusal::BookCount)? {
         let address = match read_term(reader, variables, constants)? {
             Term::Variable(variable) => variable,
-            Term::Number(_) => return Err(Refusal::BookName),
+            Term::Nil | Term::Constant(_) => return Err(Refusal::BookName),
         };
         let mut fields = Vec::new();
         for _ in 0..reader.count(0, MAX_FIELDS, Refusal::BookCount)? {
@@ -244,17 +265,18 @@ fn read_predicate(reader: &mut Reader, arities: &[usize]) -> Result<usize, Refus
 fn read_term(reader: &mut Reader, variables: usize, constants: &[u32]) -> Result<Term, Refusal> {
     let byte = reader.byte()?;
     if byte == NIL_BYTE {
-        Ok(Term::Number(0))
-    } else if byte >= FIRST_CONSTANT {
-        let constant = constants.get(byte - FIRST_CONSTANT);
-        constant
-            .map(|&value| Term::Number(value))
-            .ok_or(Refusal::BookName)
-    } else if byte < variables {
-        Ok(Term::Variable(byte))
-    } else {
-        Err(Refusal::BookName)
+        return Ok(Term::Nil);
     }
+    if byte < variables {
+        return Ok(Term::Variable(byte));
+    }
+    // There are few variables, so none has a number where constants start. The
+    // list is short too: it ends before nil's byte.
+    let place = byte.checked_sub(FIRST_CONSTANT_BYTE);
+    let constant = place.and_then(|place| constants.get(place));
+    constant
+        .map(|&value| Term::Constant(value))
+        .ok_or(Refusal::BookName)
 }
 
 /// The snapshot alone: refusals 5 to 8.

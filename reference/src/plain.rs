@@ -2,7 +2,6 @@
 //! and one for all of them.
 
 use crate::formats::{Kind, Rule, RuleSet, Term};
-use std::collections::BTreeSet;
 
 pub fn plain(rules: &RuleSet) -> bool {
     consuming(rules) && variables_fixed(rules) && exclusive(rules)
@@ -27,14 +26,15 @@ pub fn variables_fixed(rules: &RuleSet) -> bool {
 /// For each variable whether it is fixed. Only the way the rule is written
 /// counts: conditions that contradict each other fix nothing for that.
 pub fn fixed(rule: &Rule, arity: usize) -> Vec<bool> {
-    // After the variables there is one place for nil and all constants: they
-    // are fixed from the start.
+    // Nil and the constants share one place after the variables: they are all
+    // fixed, and their numbers make no difference to that.
     let number = rule.variables;
     let place = |term: Term| match term {
-        Term::Number(_) => number,
         Term::Variable(variable) => variable,
+        Term::Nil | Term::Constant(_) => number,
     };
-    let mut fixed: Vec<bool> = (0..=number).map(|at| at < arity || at == number).collect();
+    let given = |at: usize| at < arity || at == number;
+    let mut fixed: Vec<bool> = (0..=number).map(given).collect();
     loop {
         let before = fixed.clone();
         for pure in &rule.pure {
@@ -61,15 +61,10 @@ pub fn fixed(rule: &Rule, arity: usize) -> Vec<bool> {
 /// Whether there are no arguments for which the pure conditions of two rules of
 /// one predicate can hold. The same rule written twice makes two rules.
 pub fn exclusive(rules: &RuleSet) -> bool {
-    let met: Vec<BTreeSet<Vec<usize>>> = rules
-        .rules
-        .iter()
-        .map(|rule| arguments_met(rule, rules.arities[rule.head], &named(rules, rule.head)))
-        .collect();
-    for second in 0..rules.rules.len() {
-        for first in 0..second {
-            let same_head = rules.rules[first].head == rules.rules[second].head;
-            if same_head && !met[first].is_disjoint(&met[second]) {
+    for (number, second) in rules.rules.iter().enumerate() {
+        for first in &rules.rules[..number] {
+            let same_head = first.head == second.head;
+            if same_head && met_together(first, second, rules.arities[first.head]) {
                 return false;
             }
         }
@@ -77,99 +72,90 @@ pub fn exclusive(rules: &RuleSet) -> bool {
     true
 }
 
-/// The numbers that stand in conditions of the predicate's rules, ascending:
-/// constants, and 0 for nil.
-fn named(rules: &RuleSet, head: usize) -> Vec<u32> {
-    let rules = rules.rules.iter().filter(|rule| rule.head == head);
-    let mut named = BTreeSet::new();
-    for pure in rules.flat_map(|rule| &rule.pure) {
-        for term in [pure.left, pure.right] {
-            if let Term::Number(number) = term {
-                named.insert(number);
-            }
-        }
-    }
-    named.into_iter().collect()
-}
-
-/// The arguments for which some numbers for the bound variables meet the pure
-/// conditions, each up to a renaming: a named number becomes its place among
-/// the named ones, and the other numbers get the next places in the order of
-/// their first use.
+/// Whether some numbers meet the pure conditions of both rules: the same for
+/// the arguments, and for the bound variables of each rule its own.
 ///
-/// No more are needed. Conditions only ask whether two of the numbers and the
-/// named ones are the same, so they are met after a renaming that keeps
-/// different numbers apart exactly if they were before. Let two rules be met
-/// by the same arguments, each with bound numbers of its own. Renaming the
-/// arguments, and then what is new among a rule's own bound numbers, gives
-/// numbers of the form tried here; and the arguments' new names are the same
-/// for both rules, because they are named first and from the same list. So the
-/// two sets share these arguments. Conversely, what they share are arguments
-/// for both.
-///
-/// With nil, 8 variables come to 21,147 ways at most; with nil and 8 constants
-/// to 137,144,475. There are 8 conditions only, so most rules need far fewer.
-fn arguments_met(rule: &Rule, arity: usize, named: &[u32]) -> BTreeSet<Vec<usize>> {
-    let mut met = BTreeSet::new();
-    each_way(arity, named, &mut Vec::new(), &mut |arguments| {
-        if bound_met(rule, named, &mut arguments.to_vec()) {
-            met.insert(arguments.to_vec());
-        }
-    });
-    met
-}
-
-/// Every list of `length` numbers of the form above.
-fn each_way(
-    length: usize,
-    named: &[u32],
-    numbers: &mut Vec<usize>,
-    visit: &mut dyn FnMut(&[usize]),
-) {
-    if numbers.len() == length {
-        return visit(numbers);
-    }
-    for number in 0..=first_new(named, numbers) {
-        numbers.push(number);
-        each_way(length, named, numbers, visit);
-        numbers.pop();
-    }
-}
-
-/// Whether some numbers for the variables that have none yet meet all pure
-/// conditions.
-fn bound_met(rule: &Rule, named: &[u32], numbers: &mut Vec<usize>) -> bool {
-    if contradicted(rule, named, numbers) {
+/// The equalities of both put terms into classes. Where all conditions are met,
+/// the terms of a class have the same value. So the conditions cannot be met if
+/// a class holds two different numbers or both sides of an unequal condition.
+/// Else they can: a class that holds a number takes that one, and every other
+/// class takes a number that is used nowhere else, of which there always is one
+/// more. Then no two classes have the same value, for a number is in one class
+/// only; so all unequal conditions are met as well.
+fn met_together(first: &Rule, second: &Rule, arity: usize) -> bool {
+    let both = Both::of(first, second, arity);
+    let class = both.classes();
+    let numbers = &class[both.variables..];
+    let clash = |index: usize| numbers[..index].contains(&numbers[index]);
+    if (0..numbers.len()).any(clash) {
         return false;
     }
-    if numbers.len() == rule.variables {
-        return true;
+    let apart = |&(kind, left, right): &(Kind, usize, usize)| {
+        kind == Kind::Equal || class[left] != class[right]
+    };
+    both.conditions.iter().all(apart)
+}
+
+/// The pure conditions of two rules as one list. Each term has a place: first
+/// the first rule's variables, then what the second one binds, then the numbers
+/// that are named, each once however it is written.
+struct Both {
+    variables: usize,
+    numbers: Vec<u64>,
+    conditions: Vec<(Kind, usize, usize)>,
+}
+
+impl Both {
+    fn of(first: &Rule, second: &Rule, arity: usize) -> Both {
+        let mut both = Both {
+            variables: first.variables + second.variables - arity,
+            numbers: Vec::new(),
+            conditions: Vec::new(),
+        };
+        both.add(first, |variable| variable);
+        both.add(second, |variable| {
+            if variable < arity {
+                variable
+            } else {
+                first.variables + variable - arity
+            }
+        });
+        both
     }
-    for number in 0..=first_new(named, numbers) {
-        numbers.push(number);
-        let met = bound_met(rule, named, numbers);
-        numbers.pop();
-        if met {
-            return true;
+
+    fn add(&mut self, rule: &Rule, of_variable: impl Fn(usize) -> usize) {
+        for pure in &rule.pure {
+            let [left, right] = [pure.left, pure.right].map(|term| match term {
+                Term::Variable(variable) => of_variable(variable),
+                Term::Nil => self.of_number(0),
+                Term::Constant(value) => self.of_number(value as u64),
+            });
+            self.conditions.push((pure.kind, left, right));
         }
     }
-    false
-}
 
-fn first_new(named: &[u32], numbers: &[usize]) -> usize {
-    let next = numbers.iter().max().map_or(0, |highest| highest + 1);
-    next.max(named.len())
-}
+    fn of_number(&mut self, number: u64) -> usize {
+        let known = self.numbers.iter().position(|&other| other == number);
+        let index = known.unwrap_or_else(|| {
+            self.numbers.push(number);
+            self.numbers.len() - 1
+        });
+        self.variables + index
+    }
 
-/// Whether a condition on variables that have their number is false.
-fn contradicted(rule: &Rule, named: &[u32], numbers: &[usize]) -> bool {
-    let number = |term: Term| match term {
-        Term::Number(number) => named.iter().position(|&other| other == number),
-        Term::Variable(variable) => numbers.get(variable).copied(),
-    };
-    rule.pure.iter().any(|pure| {
-        let (left, right) = (number(pure.left), number(pure.right));
-        let known = left.is_some() && right.is_some();
-        known && (left == right) != (pure.kind == Kind::Equal)
-    })
+    /// For each place a name for its class.
+    fn classes(&self) -> Vec<usize> {
+        let mut class: Vec<usize> = (0..self.variables + self.numbers.len()).collect();
+        for &(kind, left, right) in &self.conditions {
+            if kind == Kind::Equal {
+                let (from, to) = (class[left], class[right]);
+                for member in &mut class {
+                    if *member == from {
+                        *member = to;
+                    }
+                }
+            }
+        }
+        class
+    }
 }

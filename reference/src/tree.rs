@@ -75,10 +75,7 @@ fn node_holds(
     {
         return false;
     }
-    let value = |term: Term| match term {
-        Term::Number(number) => number as u64,
-        Term::Variable(variable) => tree.values[variable],
-    };
+    let value = |term: Term| term.value(&tree.values);
     for pure in &rule.pure {
         let equal = value(pure.left) == value(pure.right);
         if equal != (pure.kind == Kind::Equal) {
@@ -336,13 +333,10 @@ impl Search<'_> {
         let mut goals = node.others.to_vec();
         // The last goal is taken up first, so the first call goes in last.
         for call in node.rule.calls.iter().rev() {
-            let value = |&term: &Term| match term {
-                Term::Number(number) => number as u64,
-                Term::Variable(variable) => values[variable],
-            };
+            let arguments = call.arguments.iter();
             goals.push(Goal {
                 predicate: call.predicate,
-                arguments: call.arguments.iter().map(value).collect(),
+                arguments: arguments.map(|term| term.value(&values)).collect(),
                 depth: node.depth - 1,
             });
         }
@@ -363,18 +357,18 @@ struct Node<'a> {
     others: &'a [Goal],
 }
 
-fn settle(values: &mut [Option<u64>], term: Term, value: u64) -> bool {
+fn settle(values: &mut [Option<u64>], term: Term, number: u64) -> bool {
     match term {
-        Term::Number(number) => number as u64 == value,
-        Term::Variable(variable) => *values[variable].get_or_insert(value) == value,
+        Term::Variable(variable) => *values[variable].get_or_insert(number) == number,
+        _ => term.number() == Some(number),
     }
 }
 
 /// Whether some pure condition is false already, whatever the rest will be.
 fn contradicted(rule: &Rule, values: &[Option<u64>]) -> bool {
     let value = |term: Term| match term {
-        Term::Number(number) => Some(number as u64),
         Term::Variable(variable) => values[variable],
+        _ => term.number(),
     };
     rule.pure
         .iter()

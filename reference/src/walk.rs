@@ -209,16 +209,16 @@ impl Walk<'_> {
 impl Node<'_> {
     fn value(&self, term: Term) -> Option<u64> {
         match term {
-            Term::Number(number) => Some(number as u64),
             Term::Variable(variable) => self.values[variable],
+            _ => term.number(),
         }
     }
 
     /// Gives the term this value; false if it has another.
     fn settle(&mut self, term: Term, value: u64) -> bool {
         match term {
-            Term::Number(number) => number as u64 == value,
             Term::Variable(variable) => *self.values[variable].get_or_insert(value) == value,
+            _ => term.number() == Some(value),
         }
     }
 

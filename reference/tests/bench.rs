@@ -45,22 +45,6 @@ fn an_empty_book_part_is_the_house_book() {
     assert_eq!(reference::api::desk_engine(&[], &snapshot, &question), 2);
 }
 
-/// The paper's bytes, with a 00 after the argument counts.
-#[test]
-fn the_house_book() {
-    let paper = "03 02 01 02 04 | 00 00 01 00 00 01 00 00 | 00 01 00 01 00 01 02 01 00 02 01 |
-        01 01 00 01 00 01 01 01 00 01 00 | 02 00 00 00 02 00 00 FF 00 01 FF";
-    let mut bytes: Vec<u8> = paper
-        .split_whitespace()
-        .filter(|word| *word != "|")
-        .map(|word| u8::from_str_radix(word, 16).unwrap())
-        .collect();
-    bytes.insert(4, 0);
-    assert_eq!(HOUSE, bytes[..]);
-    assert_eq!(book_l()[..4], [1, 2, 0, 2]);
-    assert_eq!(book_l()[4..], bytes[6..25]);
-}
-
 #[test]
 fn missing_bytes() {
     let nothing: [&[u8]; 3] = [&[]; 3];

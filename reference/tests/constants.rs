@@ -1,599 +1,1239 @@
-//! Numbers in the rules: constants as fields, arguments and in conditions, which
-//! of them are kept, and that only their values matter.
+//! Constants: how they are read, each refusal they bring, what they mean at
+//! every place of a term, and many small books with constants against the
+//! slower ways and against the same books with arguments instead.
 
 mod common;
 
 use common::*;
-use reference::api::{self, Reply};
-use reference::check::{first_broken, Broken};
+use reference::api::{self, PartReply, Reply, WalkReply};
+use reference::check::{self, Broken};
 use reference::domain::Domain;
-use reference::formats::{self, Problem, RuleSet, Term};
-use reference::tree::{self, Answer, Tree};
-use reference::{fact, fixpoint, naive, verdict};
-
-const FIRST: u8 = FIRST_CONSTANT;
-const SECOND: u8 = FIRST_CONSTANT + 1;
-
-fn fits(facts: usize, rounds: usize, lines: usize) -> Reply {
-    Reply {
-        refusal: 0,
-        verdict: 1,
-        facts,
-        rounds,
-        lines,
-    }
-}
-
-fn no(facts: usize, rounds: usize) -> Reply {
-    Reply {
-        refusal: 0,
-        verdict: 0,
-        facts,
-        rounds,
-        lines: 0,
-    }
-}
-
-/// The engine's reply, after every other way has come to the same answer.
-fn reply(book: &[u8], snapshot: &[u8], question: &[u8]) -> Reply {
-    let outcome = api::decide(book, snapshot, question, 1024, 3072);
-    let (reply, memory) = (outcome.reply, outcome.memory.expect("no fault"));
-    let words = &memory.space[..3 * reply.lines];
-    let taken = api::check(book, snapshot, question, words);
-    assert_eq!(taken, (0, reply.verdict));
-    let problem = problem(book, snapshot, question);
-    let domain = Domain::of(&problem);
-    let table = memory.table[..reply.facts].to_vec();
-    let parts = verdict::fitting_parts(&problem, &domain, &table);
-    assert_eq!(naive::fitting_parts(&problem, 1024), Some(parts));
-    let by_all = naive::table(&problem, &domain, 1024);
-    assert_eq!(by_all, Some((table, reply.rounds)));
-    match tree::search(&problem, 1, reply.rounds + 1, 200_000) {
-        Answer::Yes(tree) => {
-            assert_eq!(reply.verdict, 1);
-            assert!(tree::answers(&problem, &tree));
-        }
-        other => assert_eq!((other, reply.verdict), (Answer::NoneFound, 0)),
-    }
-    if reply.verdict == 1 {
-        engine_promises(words);
-        let opened = tree::open(&problem, words, 1000).expect("few nodes");
-        assert!(tree::answers(&problem, &opened));
-    }
-    reply
-}
-
-fn kept(book: &[u8], snapshot: &[u8], question: &[u8]) -> Vec<u64> {
-    Domain::of(&problem(book, snapshot, question))
-        .values()
-        .to_vec()
-}
-
-#[test]
-fn a_type_code_as_first_field() {
-    // P(a) if a:(7, b), for any b.
-    let book = book_with(&[7], &[1], &[rule(0, 1, &[], &[(0, &[FIRST, 1])], &[])]);
-    let ask = |fields: &[u32]| reply(&book, &snapshot(&[(10, fields)]), &question(0, &[10]));
-    assert_eq!(ask(&[7, 20]), fits(1, 1, 1));
-    assert_eq!(ask(&[7, 7]), fits(1, 1, 1));
-    assert_eq!(ask(&[8, 20]), no(0, 0));
-    assert_eq!(ask(&[0, 7]), no(0, 0));
-    assert_eq!(ask(&[20, 7]), no(0, 0));
-    assert_eq!(ask(&[7]), no(0, 0));
-    assert_eq!(ask(&[7, 20, 0]), no(0, 0));
-}
-
-#[test]
-fn a_list_of_one_type() {
-    let book = plain_typed();
-    let ask = |codes: [u32; 2]| {
-        let pool = snapshot(&[(10, &[codes[0], 20]), (20, &[codes[1], 0])]);
-        reply(&book, &pool, &question(0, &[10]))
-    };
-    // The empty list, the last record, and both.
-    assert_eq!(ask([7, 7]), fits(3, 3, 3));
-    assert_eq!(ask([8, 7]), no(2, 2));
-    assert_eq!(ask([7, 8]), no(1, 1));
-}
-
-#[test]
-fn all_four_bytes_count() {
-    for code in [0x0000_0001, 0x0000_0100, 0x0001_0000, 0x8000_0000, u32::MAX] {
-        let book = book_with(&[code], &[1], &[rule(0, 0, &[], &[(0, &[FIRST])], &[])]);
-        assert_eq!(read(&book).constants, [code]);
-        for field in [code, code ^ 1, code ^ 1 << 31, code & 0xff] {
-            let pool = snapshot(&[(10, &[field])]);
-            let expected = (field == code) as u32;
-            assert_eq!(reply(&book, &pool, &question(0, &[10])).verdict, expected);
-        }
-    }
-}
+use reference::formats::{self, Kind, Problem, RuleSet, Term};
+use reference::tree::{self, Answer};
+use reference::{certificate, fact, fixpoint, naive, plain, verdict, walk};
+use std::time::{Duration, Instant};
 
 fn read(book: &[u8]) -> RuleSet {
     formats::read_rule_set(book).expect("no fault")
 }
 
-#[test]
-fn kept_whether_used_or_not() {
-    let (pool, asked) = (snapshot(&[]), question(0, &[]));
-    let two = [rule(0, 2, &[], &[], &[])];
-    // No rule, so no spare.
-    let book = book_with(&[9, 4], &[0], &[]);
-    assert_eq!(kept(&book, &pool, &asked), [0, 4, 9]);
-    assert_eq!(reply(&book, &pool, &asked), no(0, 0));
-    // Spares go round them.
-    let book = book_with(&[1, 3], &[0], &two);
-    assert_eq!(kept(&book, &pool, &asked), [0, 1, 2, 3, 4]);
-    // Equal ones, and 0, are no more than their values.
-    let book = book_with(&[3, 0, 3, 3], &[0], &two);
-    assert_eq!(kept(&book, &pool, &asked), [0, 1, 2, 3]);
-    let book = book_with(&[u32::MAX; 8], &[0], &two);
-    let highest = u32::MAX as u64;
-    assert_eq!(kept(&book, &pool, &asked), [0, 1, 2, highest]);
-    // They are there for every variable: one fact for each kept value.
-    let any = rule(0, 0, &[], &[], &[]);
-    let book = book_with(&[5, 6, 7], &[1], &[any]);
-    assert_eq!(reply(&book, &pool, &question(0, &[2])), fits(6, 1, 1));
+fn book_refusal(book: &[u8]) -> u32 {
+    formats::read_rule_set(book).map_or_else(|refusal| refusal.number(), |_| 0)
 }
 
+// Reading.
+
 #[test]
-fn a_constant_that_is_there_already() {
-    // As a field, an address and the question's value: 7 is kept once.
-    let on = rule(0, 1, &[[UNEQUAL, 1, FIRST]], &[(0, &[1])], &[]);
-    let (with, without) = (
-        book_with(&[7], &[1], &[on]),
-        book(&[1], &[rule(0, 1, &[], &[(0, &[1])], &[])]),
-    );
-    let rows: [(&[u32], u32, u32); 4] = [
-        // Field, address, question: the conditions speak of the field.
-        (&[7], 10, 0),
-        (&[20], 7, 1),
-        (&[7], 7, 0),
-        (&[0], 7, 1),
+fn older_books_with_the_added_byte() {
+    let house = [
+        0x03, 0x02, 0x01, 0x02, 0x00, 0x04, 0x00, 0x00, 0x01, 0x00, 0x00, 0x01, 0x00, 0x00, 0x00,
+        0x01, 0x00, 0x01, 0x00, 0x01, 0x02, 0x01, 0x00, 0x02, 0x01, 0x01, 0x01, 0x00, 0x01, 0x00,
+        0x01, 0x01, 0x01, 0x00, 0x01, 0x00, 0x02, 0x00, 0x00, 0x00, 0x02, 0x00, 0x00, 0xFF, 0x00,
+        0x01, 0xFF,
     ];
-    for (fields, address, expected) in rows {
-        let (pool, asked) = (snapshot(&[(address, fields)]), question(0, &[address]));
-        assert_eq!(kept(&with, &pool, &asked), kept(&without, &pool, &asked));
-        let expected = if expected == 1 {
-            fits(1, 1, 1)
-        } else {
-            no(0, 0)
-        };
-        assert_eq!(reply(&with, &pool, &asked), expected);
-    }
-    // In the question alone.
-    let is = rule(0, 0, &[[EQUAL, 0, FIRST]], &[], &[]);
-    let book = book_with(&[7], &[1], &[is]);
-    let pool = snapshot(&[]);
-    assert_eq!(kept(&book, &pool, &question(0, &[7])), [0, 1, 7]);
-    assert_eq!(reply(&book, &pool, &question(0, &[7])), fits(1, 1, 1));
-    assert_eq!(reply(&book, &pool, &question(0, &[1])), no(1, 1));
-    assert_eq!(reply(&book, &pool, &question(0, &[0])), no(1, 1));
-}
-
-#[test]
-fn a_variable_that_equals_a_constant_may_be_an_address() {
-    // P() if a = 7 and a:(7).
-    let at = rule(0, 1, &[[EQUAL, FIRST, 0]], &[(0, &[FIRST])], &[]);
-    let book = book_with(&[7], &[0], &[at]);
-    let ask = |address: u32, field: u32| {
-        let pool = snapshot(&[(address, &[field])]);
-        reply(&book, &pool, &question(0, &[]))
-    };
-    assert_eq!(ask(7, 7), fits(1, 1, 1));
-    assert_eq!(ask(7, 8), no(0, 0));
-    assert_eq!(ask(8, 7), no(0, 0));
-    // Nil never is, also as a constant.
-    let nowhere = rule(0, 1, &[[EQUAL, FIRST, 0]], &[(0, &[])], &[]);
-    let book = book_with(&[0], &[0], &[nowhere]);
-    let pool = snapshot(&[(1, &[])]);
-    assert_eq!(reply(&book, &pool, &question(0, &[])), no(0, 0));
-}
-
-/// P() with this condition on constants, in the empty pool.
-fn holds(constants: &[u32], pure: [u8; 3]) -> bool {
-    let book = book_with(constants, &[0], &[rule(0, 0, &[pure], &[], &[])]);
-    let reply = reply(&book, &snapshot(&[]), &question(0, &[]));
-    let expected = if reply.verdict == 1 {
-        fits(1, 1, 1)
-    } else {
-        no(0, 0)
-    };
-    assert_eq!(reply, expected);
-    reply.verdict == 1
-}
-
-#[test]
-fn conditions_between_constants() {
-    let rows: [([u32; 2], bool); 4] = [
-        ([7, 8], false),
-        ([7, 7], true),
-        ([0, 0], true),
-        ([0, u32::MAX], false),
-    ];
-    for (constants, same) in rows {
-        for (left, right) in [(FIRST, SECOND), (SECOND, FIRST)] {
-            assert_eq!(holds(&constants, [EQUAL, left, right]), same);
-            assert_eq!(holds(&constants, [UNEQUAL, left, right]), !same);
-        }
-        assert!(holds(&constants, [EQUAL, FIRST, FIRST]));
-        assert!(!holds(&constants, [UNEQUAL, SECOND, SECOND]));
+    assert_eq!(api::HOUSE, house);
+    assert_eq!(book_l()[..4], [1, 2, 0, 2]);
+    assert_eq!(book_l()[4..], house[6..25]);
+    for book in [book_h(), book_l(), book_s()] {
+        assert_eq!(read(&book).constants, []);
+        // Without the byte, the rule count is taken for it.
+        let mut older = book;
+        older.remove(1 + older[0] as usize);
+        assert_ne!(book_refusal(&older), 0);
     }
 }
 
 #[test]
-fn a_constant_0_is_nil() {
-    for (left, right) in [(FIRST, NIL), (NIL, FIRST)] {
-        assert!(holds(&[0], [EQUAL, left, right]));
-        assert!(!holds(&[0], [UNEQUAL, left, right]));
-        assert!(!holds(&[1], [EQUAL, left, right]));
-        assert!(holds(&[1], [UNEQUAL, left, right]));
+fn constants_stand_as_listed() {
+    for constants in [
+        &[][..],
+        &[0],
+        &[0, 0, 0],
+        &[7, 0, 7],
+        &[u32::MAX, 1, u32::MAX, 0x0102_0304],
+        &[8, 7, 6, 5, 4, 3, 2, 1],
+    ] {
+        let book = book_with(&[1, 2], constants, &[]);
+        assert_eq!(read(&book).constants, constants);
     }
-    // As a field and as an argument: the list to nil, with 0 for nil.
-    let zero = FIRST;
-    let list = |nil: u8| {
-        let end = rule(0, 0, &[[EQUAL, 0, nil]], &[], &[]);
-        let on = rule(0, 1, &[[UNEQUAL, 0, nil]], &[(0, &[1, nil])], &[(0, &[1])]);
-        let all = rule(1, 0, &[], &[], &[(0, &[0]), (0, &[nil])]);
-        book_with(&[0], &[1, 1], &[end, on, all])
-    };
-    assert_eq!(read(&list(zero)), read(&list(NIL)));
-    let pool = snapshot(&[(10, &[20, 0]), (20, &[0, 0])]);
-    for nil in [zero, NIL] {
-        let book = list(nil);
-        assert_eq!(reply(&book, &pool, &question(1, &[10])), fits(6, 4, 4));
-        assert_eq!(reply(&book, &pool, &question(1, &[20])), no(6, 4));
-    }
+    // Lowest byte first, after the argument counts.
+    let bytes = [1, 0, 2, 1, 2, 3, 4, 0, 0, 0, 255, 0];
+    assert_eq!(read(&bytes).constants, [0x0403_0201, 0xFF00_0000]);
 }
 
 #[test]
-fn a_constant_as_argument() {
-    // Q(x, y) if x = y; P() calls Q(7, 8), or Q(7, 7) with another 8.
-    for (second, expected) in [(8, no(5, 1)), (7, fits(5, 2, 2))] {
-        let same = rule(1, 0, &[[EQUAL, 0, 1]], &[], &[]);
-        let call = rule(0, 0, &[], &[], &[(1, &[FIRST, SECOND])]);
-        let book = book_with(&[7, second], &[0, 2], &[call, same]);
-        assert_eq!(reply(&book, &snapshot(&[]), &question(0, &[])), expected);
-    }
-    // Record 7 with the constant as address handed down.
-    let call = rule(0, 0, &[], &[], &[(1, &[FIRST])]);
-    let one = rule(1, 0, &[], &[(0, &[])], &[]);
-    let book = book_with(&[7], &[0, 1], &[call, one]);
-    for (address, expected) in [(7, fits(2, 2, 2)), (8, no(1, 1))] {
-        let pool = snapshot(&[(address, &[])]);
-        assert_eq!(reply(&book, &pool, &question(0, &[])), expected);
-    }
-}
-
-#[test]
-fn some_part_and_the_walk() {
-    // Three records, two of them of type 7.
-    let book = plain_typed();
-    let pool = snapshot(&[(10, &[7, 20]), (15, &[8, 0]), (20, &[7, 0])]);
-    for (address, part) in [(10, Some(5)), (20, Some(4)), (15, None), (0, Some(0))] {
-        let asked = question(0, &[address]);
-        let outcome = api::decide_part(&book, &pool, &asked, 1024, 3072);
-        assert_eq!(outcome.reply.verdict, part.is_some() as u32);
-        assert_eq!(outcome.reply.part, part.unwrap_or(0));
-        let words = &outcome.memory.unwrap().space[..3 * outcome.reply.lines];
-        let taken = api::check_part(&book, &pool, &asked, outcome.reply.part, words);
-        assert_eq!(taken, (0, part.is_some() as u32));
-        let problem = problem(&book, &pool, &asked);
-        let parts: Vec<u16> = part.into_iter().collect();
-        assert_eq!(naive::fitting_parts(&problem, 100), Some(parts.clone()));
-        assert_eq!(tree::fitting_parts(&problem, 2, 4, 50_000), Some(parts));
-        assert_eq!(reply(&book, &pool, &asked).verdict, 0);
-        assert_eq!(api::walk(&book, &pool, &asked).verdict, 0);
-    }
-}
-
-/// Two records, of types 9 and 7; kept are 0 1 2 3 4 7 9 10 20.
-fn two_kinds() -> (Problem, Vec<u64>) {
-    let problem = problem(
-        &plain_kinds(),
-        &snapshot(&[(10, &[9, 20, 7]), (20, &[7])]),
-        &question(0, &[10, 9]),
-    );
-    let words = vec![
-        fact::pack(0, &[8, 5], 2),
-        8 | 5 << 8,
+fn terms_that_name_constants() {
+    let rules = [rule(
         0,
-        fact::pack(0, &[7, 6], 3),
-        7 | 6 << 8 | 8 << 16 | 5 << 24,
-        1 | 1 << 8,
-    ];
-    (problem, words)
+        1,
+        &[[EQUAL, C, 0], [UNEQUAL, 1, E]],
+        &[(1, &[D, NIL, 131, 0])],
+        &[(0, &[130])],
+    )];
+    let set = read(&book_with(&[1], &[7, 7, 0, u32::MAX], &rules));
+    let rule = &set.rules[0];
+    assert_eq!(rule.pure[0].left, Term::Constant(7));
+    assert_eq!(rule.pure[1].right, Term::Constant(0));
+    let most = Term::Constant(u32::MAX);
+    let fields = [Term::Constant(7), Term::Nil, most, Term::Variable(0)];
+    assert_eq!(rule.cells[0].fields, fields);
+    assert_eq!(rule.calls[0].arguments, [Term::Constant(0)]);
+    // A constant of 0 is read as one, though it has nil's number.
+    assert_eq!(Term::Constant(0).number(), Term::Nil.number());
+    assert_eq!(most.number(), Some(u32::MAX as u64));
+    assert_eq!(Term::Variable(0).number(), None);
 }
 
-#[test]
-fn lines_with_constants() {
-    let (problem, words) = two_kinds();
-    let domain = Domain::of(&problem);
-    assert_eq!(domain.values(), [0, 1, 2, 3, 4, 7, 9, 10, 20]);
-    assert_eq!(first_broken(&problem, &words), Ok(()));
-    let facts = fixpoint::facts(&problem, &domain, 10).unwrap();
-    assert_eq!(facts.table, [words[0], words[3]]);
-    let broken = |index: usize, line: [u64; 3]| {
-        let mut words = words.clone();
-        words[index..index + 3].copy_from_slice(&line);
-        first_broken(&problem, &words).unwrap_err()
-    };
-    // Another code than the condition's, in either rule.
-    let line = [fact::pack(0, &[8, 6], 2), 8 | 6 << 8, 0];
-    assert_eq!(broken(0, line), Broken::Pure);
-    let line = [
-        fact::pack(0, &[7, 5], 3),
-        7 | 5 << 8 | 8 << 16 | 5 << 24,
-        1 | 1 << 8,
-    ];
-    assert_eq!(broken(3, line), Broken::Pure);
-    // A record whose field is not the constant, nor has its place.
-    let line = [fact::pack(0, &[7, 5], 1), 7 | 5 << 8, 0];
-    assert_eq!(broken(0, line), Broken::Cell);
-    // The called line has another code.
-    let line = [
-        fact::pack(0, &[7, 6], 3),
-        7 | 6 << 8 | 8 << 16 | 6 << 24,
-        1 | 1 << 8,
-    ];
-    assert_eq!(broken(3, line), Broken::Cell);
+// Refusals.
 
-    // P() calls Q(7), but the line called is Q(8).
-    let call = rule(0, 0, &[], &[], &[(1, &[FIRST])]);
-    let any = rule(1, 0, &[], &[], &[]);
-    let book = book_with(&[7, 8], &[0, 1], &[call, any]);
-    let called = common::problem(&book, &snapshot(&[]), &question(0, &[]));
-    assert_eq!(Domain::of(&called).values(), [0, 1, 7, 8]);
-    for (position, expected) in [(2, Ok(())), (3, Err(Broken::CalledArguments))] {
-        let line = [fact::pack(1, &[position], 0), position as u64, 1];
-        let words = [line, [0, 0, 1 << 8]].concat();
-        assert_eq!(first_broken(&called, &words), expected);
+#[test]
+fn faults_in_the_section() {
+    let rows: &[(&[u8], u32)] = &[
+        // The count is due, and too high at once.
+        (&[1, 0], 1),
+        (&[1, 0, 9], 2),
+        (&[1, 0, 10], 2),
+        (&[1, 0, 128], 2),
+        (&[1, 0, 255], 2),
+        (&[1, 0, 9, 0, 0, 0, 0], 2),
+        // An end at every byte of a constant, and at the rule count.
+        (&[1, 0, 1], 1),
+        (&[1, 0, 1, 0], 1),
+        (&[1, 0, 1, 0, 0], 1),
+        (&[1, 0, 1, 0, 0, 0], 1),
+        (&[1, 0, 1, 0, 0, 0, 0], 1),
+        (&[1, 0, 1, 0, 0, 0, 0, 0], 0),
+        (&[1, 0, 1, 0, 0, 0, 0, 0, 0], 4),
+        // Whatever bytes a constant has, they are no fault.
+        (&[1, 0, 1, 255, 255, 255, 255, 0], 0),
+        (&[1, 0, 1, 9, 17, 128, 254, 0], 0),
+        (&[1, 0, 2, 9, 17, 128, 254, 9, 17, 128, 254, 0], 0),
+        // What is before the section counts first, then what is after it.
+        (&[0, 9], 2),
+        (&[2, 4, 5, 9], 2),
+        (&[2, 4], 1),
+        (&[1, 0, 1, 0, 0, 0, 0, 17], 2),
+        (&[1, 0, 1, 0, 0, 0, 0, 1, 1], 3),
+        (&[1, 0, 9, 17, 1], 2),
+    ];
+    for (book, refusal) in rows {
+        assert_eq!(book_refusal(book), *refusal, "{book:?}");
+        let expected = (*refusal == 0).then_some(true).ok_or(*refusal);
+        assert_eq!(api::plain_book(book), expected, "{book:?}");
     }
 }
 
 #[test]
-fn no_flipped_bit_is_taken() {
-    let (problem, words) = two_kinds();
-    for index in 0..words.len() {
-        for bit in 0..64 {
-            let mut flipped = words.clone();
-            flipped[index] ^= 1 << bit;
-            assert!(first_broken(&problem, &flipped).is_err());
+fn every_start_of_a_book_with_constants_is_too_short() {
+    let mut books = typed_books();
+    books.push(book_with(&[4; 8], &[u32::MAX; 8], &[]));
+    for book in books {
+        assert_eq!(book_refusal(&book), 0);
+        for end in 0..book.len() {
+            assert_eq!(book_refusal(&book[..end]), 1, "{end}");
+        }
+        let longer = [&book[..], &[0]].concat();
+        assert_eq!(book_refusal(&longer), 4);
+    }
+}
+
+#[test]
+fn eight_constants_and_nine() {
+    for count in 0..=255u8 {
+        let mut bytes = vec![1, 0, count];
+        bytes.extend([5, 0, 0, 0].repeat(count as usize));
+        bytes.push(0);
+        assert_eq!(book_refusal(&bytes), if count > 8 { 2 } else { 0 });
+    }
+}
+
+/// A rule for a predicate with one argument and one bound variable, with this
+/// byte at one of the places where a term stands; the last is the address.
+fn with_term(place: usize, byte: u8, constants: &[u32]) -> Vec<u8> {
+    let mut at = [0, 1, 1, 0, 1, 0, 0];
+    at[place] = byte;
+    let [a, b, c, d, e, f, address] = at;
+    let pure = [[EQUAL, a, b], [UNEQUAL, c, 0]];
+    let call: &[(u8, &[u8])] = &[(0, &[e]), (0, &[f])];
+    let one = rule(0, 1, &pure, &[(address, &[d, 0])], call);
+    book_with(&[1], constants, &[one])
+}
+
+const ADDRESS: usize = 6;
+
+#[test]
+fn every_byte_at_every_place_of_a_term() {
+    for count in 0..=8 {
+        let constants = &[3, 0, 3, 7, 8, 9, 10, u32::MAX][..count];
+        for place in 0..=ADDRESS {
+            for byte in 0..=255u8 {
+                let variable = byte < 2;
+                let constant = byte >= 128 && (byte as usize) < 128 + count;
+                let number = constant || byte == NIL;
+                let good = variable || number && place != ADDRESS;
+                let book = with_term(place, byte, constants);
+                let expected = if good { 0 } else { 3 };
+                assert_eq!(book_refusal(&book), expected, "{count} {place} {byte}");
+            }
         }
     }
 }
 
 #[test]
-fn trees_with_constants() {
-    let (problem, _) = two_kinds();
-    let last = |values: [u64; 2]| Tree {
-        rule: 0,
-        values: values.to_vec(),
-        under: vec![],
-    };
-    let first = |values: [u64; 4], below: Tree| Tree {
-        rule: 1,
-        values: values.to_vec(),
-        under: vec![below],
-    };
-    let good = first([10, 9, 20, 7], last([20, 7]));
-    assert!(tree::answers(&problem, &good));
-    let wrong = [
-        first([10, 7, 20, 7], last([20, 7])),
-        first([10, 9, 20, 9], last([20, 9])),
-        first([10, 9, 20, 7], last([20, 9])),
-        last([10, 9]),
-        last([10, 7]),
-    ];
-    for tree in wrong {
-        assert!(!tree::answers(&problem, &tree), "{tree:?}");
-    }
-    // Some number other than 7, far beyond 32 bits.
-    let other = rule(0, 1, &[[UNEQUAL, 0, FIRST]], &[], &[]);
-    let book = book_with(&[7], &[0], &[other]);
-    let problem = common::problem(&book, &snapshot(&[]), &question(0, &[]));
-    for (value, expected) in [(7, false), (7 + (1 << 32), true), (0, true)] {
-        let tree = Tree {
-            rule: 0,
-            values: vec![value],
-            under: vec![],
-        };
-        assert_eq!(tree::answers(&problem, &tree), expected);
+fn the_first_of_several_faults_in_a_book() {
+    let good = with_term(0, C, &[7]);
+    // Behind the constant: rule count, head, bound; both conditions; the cell;
+    // the calls.
+    let rest = [1, 0, 1, 2, 0, C, 1, 1, 1, 0, 1, 0, 2, 0, 0, 2, 0, 1, 0, 0];
+    assert_eq!(good[7..], rest);
+    let places = [12, 13, 15, 16, 18, 20, 21, 24, 26];
+    for &first in &places {
+        let mut one = good.clone();
+        // Beyond the list, or as an address any constant.
+        one[first] = if first == 18 { C } else { D };
+        assert_eq!(book_refusal(&one), 3, "{first}");
+        // Once the byte is there, the end of the book is too late to count.
+        assert_eq!(book_refusal(&one[..=first]), 3, "{first}");
+        assert_eq!(book_refusal(&one[..first]), 1, "{first}");
+        let longer = [&one[..], &[0]].concat();
+        assert_eq!(book_refusal(&longer), 3, "{first}");
+        // A count beyond its range after it, and before it.
+        for count in [9, 10, 17, 19, 22] {
+            let mut two = one.clone();
+            two[count] = 99;
+            let expected = if count < first { 2 } else { 3 };
+            assert_eq!(book_refusal(&two), expected, "{first} {count}");
+        }
+        // Too many constants come before all that.
+        let mut many = one.clone();
+        many[2] = 9;
+        assert_eq!(book_refusal(&many), 2, "{first}");
     }
 }
 
-/// 16 records of four fields, which come to 80 values.
-fn many_values() -> Vec<u8> {
+#[test]
+fn refusals_from_every_call_and_nothing_changed() {
+    let (pool, ask) = (snapshot(&[(10, &[7])]), question(0, &[10]));
+    let good = with_term(0, C, &[7]);
+    let cut = good[..5].to_vec();
+    let nine = [&[1, 1, 9], &[0; 37][..]].concat();
+    let beyond = with_term(3, D, &[7]);
+    let address = with_term(ADDRESS, C, &[7]);
+    let longer = [&good[..], &[0]].concat();
+    let cases = [(cut, 1), (nine, 2), (beyond, 3), (address, 3), (longer, 4)];
+    let found = 0xAAAA_AAAA_AAAA_AAAA;
+    for (book, refusal) in &cases {
+        // Later faults, in the snapshot and elsewhere, do not count.
+        for (pool, ask, lines) in [(&pool[..], &ask[..], 8), (&[17], &ask, 8), (&pool, &[], 0)] {
+            let mut table = vec![found; lines];
+            let mut space = vec![found; 3 * lines];
+            let reply = api::decide_lent(book, pool, ask, &mut table, &mut space);
+            let refused = Reply {
+                refusal: *refusal,
+                ..Reply::default()
+            };
+            assert_eq!(reply, refused);
+            let reply = api::decide_part_lent(book, pool, ask, &mut table, &mut space);
+            let refused = PartReply {
+                refusal: *refusal,
+                ..PartReply::default()
+            };
+            assert_eq!(reply, refused);
+            assert!(table.iter().chain(&space).all(|&word| word == found));
+            assert_eq!(api::check(book, pool, ask, &[]), (*refusal, 0));
+            assert_eq!(api::check_part(book, pool, ask, 1, &[]), (*refusal, 0));
+            let refused = WalkReply {
+                refusal: *refusal,
+                verdict: 0,
+            };
+            assert_eq!(api::walk(book, pool, ask), refused);
+            assert_eq!(api::plain_book(book), Err(*refusal));
+            assert_eq!(api::desk_engine(book, pool, ask), 2 * refusal);
+            assert_eq!(api::desk_check(book, pool, ask, &[]), 2 * refusal);
+        }
+    }
+}
+
+// Kept values.
+
+fn kept(book: &[u8], pool: &[u8], question: &[u8]) -> Vec<u64> {
+    Domain::of(&problem(book, pool, question)).values().to_vec()
+}
+
+#[test]
+fn kept_values_with_constants() {
+    let (none, two) = (snapshot(&[]), question(0, &[2]));
+    let three = rule(0, 2, &[], &[], &[]);
+    // No rule names them; spares go round them; equal ones and 0 count once.
+    let book = book_with(&[1], &[3, 1, 0, 3], &[three]);
+    assert_eq!(kept(&book, &none, &two), [0, 1, 2, 3, 4, 5, 6]);
+    // No rule, no spare; the constants stay.
+    let book = book_with(&[1], &[9, u32::MAX, 1], &[]);
+    let most = u32::MAX as u64;
+    assert_eq!(kept(&book, &none, &two), [0, 1, 2, 9, most]);
+    // One that is a record's address and one that is asked about.
+    let book = book_with(&[1], &[10, 2], &[rule(0, 0, &[], &[], &[])]);
+    let pool = snapshot(&[(10, &[20])]);
+    assert_eq!(kept(&book, &pool, &two), [0, 1, 2, 10, 20]);
+    let bare = problem(&book, &pool, &two);
+    assert_eq!(Domain::with_spares(&bare, 0).values(), [0, 2, 10, 20]);
+}
+
+/// 16 records with 80 numbers in them, none of them below 100.
+fn wide_pool() -> Vec<u8> {
     let fields: Vec<[u32; 4]> = (0..16)
-        .map(|i| [1000 + i, 2000 + i, 3000 + i, u32::MAX - i])
+        .map(|i| [1000 + i, 2000 + i, 3000 + i, 4000 + i])
         .collect();
     let records: Vec<(u32, &[u32])> = (100..).zip(fields.iter().map(|four| &four[..])).collect();
     snapshot(&records)
 }
 
+const EIGHT: [u32; 8] = [6, 50, 60, 70, 80, 90, 9000, u32::MAX];
+
 #[test]
-fn most_kept_values() {
-    let (pool, asked) = (many_values(), question(0, &[1, 3, 5, 7]));
-    // Four equal arguments and four variables more.
-    let same = rule(
-        0,
-        4,
-        &[[EQUAL, 0, 1], [EQUAL, 1, 2], [EQUAL, 2, 3]],
-        &[],
-        &[],
+fn at_most_101_kept_values() {
+    // P(a,b,c,d) if e is the last constant: for any arguments.
+    let any = rule(0, 4, &[[EQUAL, 4, C + 7]], &[], &[]);
+    let book = book_with(&[4], &EIGHT, &[any]);
+    let (pool, ask) = (wide_pool(), question(0, &[1, 3, 5, 7]));
+    let values = kept(&book, &pool, &ask);
+    assert_eq!(values.len(), 101);
+    // Spares 2 4 8 to 13.
+    assert_eq!(values[..14], (0..14).collect::<Vec<u64>>());
+    assert_eq!(values[14..20], [50, 60, 70, 80, 90, 100]);
+    assert_eq!(values[99..], [9000, u32::MAX as u64]);
+    // There are far too many facts for any table, but the check needs none.
+    let full = api::decide_part(&book, &pool, &ask, 65_535, 196_605).reply;
+    assert_eq!(full.refusal, 11);
+    let line = |e: u64| {
+        let fact = fact::pack(0, &[1, 3, 5, 7], 0);
+        let arguments = 1 | 3 << 8 | 5 << 16 | 7 << 24;
+        [fact, arguments | e << 32 | 100 << 40, 0]
+    };
+    let taken = |e| api::check_part(&book, &pool, &ask, 0, &line(e)).1;
+    assert_eq!([taken(99), taken(100), taken(101)], [0, 1, 0]);
+    let problem = problem(&book, &pool, &ask);
+    assert_eq!(
+        check::first_broken_part(&problem, 0, &line(101)),
+        Err(Broken::Position)
     );
-    let book = |constants: &[u32]| book_with(constants, &[4], std::slice::from_ref(&same));
-    assert_eq!(kept(&book(&[]), &pool, &asked).len(), 93);
-    let eight = book(&[2, 4, 500, 501, 502, 503, 504, 4000]);
-    let values = kept(&eight, &pool, &asked);
-    assert_eq!(values.len(), 93 + 8);
-    // The spares fill up what is free from below: 6 8 9 10 11 12 13 14.
-    assert_eq!(values[..15], (0..15).collect::<Vec<u64>>());
-    assert_eq!(values[15], 100);
-    assert_eq!(values[100], u32::MAX as u64);
-    // One that is listed twice or was there before makes one value less.
-    let seven = book(&[2, 4, 500, 501, 502, 503, 504, 504]);
-    assert_eq!(kept(&seven, &pool, &asked).len(), 100);
-    let seven = book(&[2, 4, 500, 501, 502, 503, 504, 3015]);
-    assert_eq!(kept(&seven, &pool, &asked).len(), 100);
-
-    // One fact for each value, and the last has position 100 four times.
-    let outcome = api::decide(&eight, &pool, &asked, 101, 303);
-    assert_eq!(outcome.reply, no(101, 1));
-    let last = outcome.memory.unwrap().table[100];
-    assert_eq!(last, 100 << 37 | 100 << 30 | 100 << 23 | 100 << 16);
-    let short = api::decide(&eight, &pool, &asked, 100, 300).reply;
-    assert_eq!(short.refusal, 11);
+    assert_eq!(
+        check::first_broken_part(&problem, 0, &line(99)),
+        Err(Broken::Pure)
+    );
 }
 
-/// The book with each number named in another way, where there is one.
-fn renamed(dice: &mut Dice, rules: &RuleSet) -> RuleSet {
-    let mut rules = rules.clone();
-    let mut order: Vec<u32> = Vec::new();
-    while let Some(last) = rules.constants.pop() {
-        let place = dice.below(order.len() + 1);
-        order.insert(place, last);
-    }
-    // One that is there already may come once more.
-    if !order.is_empty() && order.len() < 8 {
-        order.push(dice.pick(&order));
-    }
-    rules.constants = order;
-    rules
-}
-
-/// Only values matter: in another order, and with a copy, all is the same.
 #[test]
-fn neither_order_nor_copies_matter() {
-    let mut different = 0;
-    for seed in 0..3000 {
-        let mut dice = Dice::new(50_000_000 + seed);
-        let book = dice.book(3);
-        let (pool, question) = (dice.snapshot(3), dice.question(&book));
-        let again = written(&renamed(&mut dice, &read(&book)));
-        different += (again != book) as usize;
-        assert_eq!(
-            api::decide(&book, &pool, &question, 200, 600),
-            api::decide(&again, &pool, &question, 200, 600),
-            "seed {seed}"
-        );
-        assert_eq!(
-            api::decide_part(&book, &pool, &question, 200, 600),
-            api::decide_part(&again, &pool, &question, 200, 600),
-            "seed {seed}"
-        );
-        assert_eq!(
-            api::walk(&book, &pool, &question),
-            api::walk(&again, &pool, &question),
-            "seed {seed}"
-        );
-        assert_eq!(api::plain_book(&book), api::plain_book(&again));
-    }
-    assert!(different > 1000, "{different}");
+fn the_greatest_number_in_a_table() {
+    // P(a) if a is the last constant; seven more variables for the spares.
+    let last = rule(0, 7, &[[EQUAL, C + 7, 0]], &[], &[]);
+    let book = book_with(&[1], &EIGHT, &[last]);
+    let (pool, ask) = (wide_pool(), question(0, &[u32::MAX]));
+    let outcome = api::decide_part(&book, &pool, &ask, 1, 3);
+    let expected = PartReply {
+        refusal: 0,
+        verdict: 1,
+        part: 0,
+        facts: 1,
+        rounds: 1,
+        lines: 1,
+    };
+    assert_eq!(outcome.reply, expected);
+    let memory = outcome.memory.unwrap();
+    assert_eq!(kept(&book, &pool, &ask).len(), 97);
+    assert_eq!(memory.table, [96 << 16]);
+    assert_eq!(
+        api::check_part(&book, &pool, &ask, 0, &memory.space),
+        (0, 1)
+    );
 }
 
-/// Constants that no rule names are kept, but change no verdict.
-#[test]
-fn unused_constants_change_no_verdict() {
-    let mut yes = 0;
-    for seed in 0..3000 {
-        let mut dice = Dice::new(51_000_000 + seed);
-        let book = dice.book(3);
-        let (pool, question) = dice.grown(&book, 3);
-        let mut rules = read(&book);
-        for _ in 0..dice.between(1, 3) {
-            rules.constants.push(dice.pick(&[0, 1, 2, 7, 8, 500]));
+// Meaning.
+
+/// The verdict with facts, rounds and lines, the same by every way there is.
+#[track_caller]
+fn verdict_by_all(book: &[u8], pool: &[u8], question: &[u8]) -> (u32, [usize; 3]) {
+    let outcome = api::decide(book, pool, question, 1024, 3072);
+    let (reply, memory) = (outcome.reply, outcome.memory.expect("no fault"));
+    assert_eq!(reply.refusal, 0);
+    let problem = problem(book, pool, question);
+    let domain = Domain::of(&problem);
+    let (table, rounds) = naive::table(&problem, &domain, 1024).expect("few facts");
+    assert_eq!(table, memory.table[..reply.facts]);
+    assert_eq!(rounds, reply.rounds);
+    let words = &memory.space[..3 * reply.lines];
+    let taken = api::check(book, pool, question, words);
+    assert_eq!(taken, (0, reply.verdict));
+    match tree::search(&problem, 2, reply.rounds + 1, 200_000) {
+        Answer::Yes(found) => {
+            assert!(tree::answers(&problem, &found));
+            assert_eq!(reply.verdict, 1);
+            let opened = tree::open(&problem, words, 1000).expect("small");
+            assert!(tree::answers(&problem, &opened));
         }
-        let more = written(&rules);
-        let verdict = |book: &[u8]| {
-            let reply = api::decide(book, &pool, &question, 2000, 6000).reply;
-            (reply.refusal == 0).then_some(reply.verdict)
+        other => assert_eq!((other, reply.verdict), (Answer::NoneFound, 0)),
+    }
+    let walked = api::walk(book, pool, question).verdict;
+    assert!(walked <= reply.verdict);
+    if api::plain_book(book) == Ok(true) {
+        assert_eq!(walked, reply.verdict);
+    }
+    (reply.verdict, [reply.facts, reply.rounds, reply.lines])
+}
+
+#[test]
+fn in_a_pure_condition() {
+    let none = snapshot(&[]);
+    for number in [7, u32::MAX] {
+        let of = |condition| book_with(&[1], &[3, number], &[rule(0, 0, &[condition], &[], &[])]);
+        for [a, b] in [[0, D], [D, 0]] {
+            // Kept: 0, one spare, 3 and the number; and then 5.
+            let same = of([EQUAL, a, b]);
+            let reply = verdict_by_all(&same, &none, &question(0, &[number]));
+            assert_eq!(reply, (1, [1, 1, 1]));
+            let reply = verdict_by_all(&same, &none, &question(0, &[5]));
+            assert_eq!(reply, (0, [1, 1, 0]));
+            let apart = of([UNEQUAL, a, b]);
+            let reply = verdict_by_all(&apart, &none, &question(0, &[number]));
+            assert_eq!(reply, (0, [3, 1, 0]));
+            let reply = verdict_by_all(&apart, &none, &question(0, &[5]));
+            assert_eq!(reply, (1, [4, 1, 1]));
+        }
+    }
+}
+
+#[test]
+fn between_constants_and_nil() {
+    let none = snapshot(&[]);
+    let holds = |constants: &[u32], condition| {
+        let book = book_with(&[0], constants, &[rule(0, 0, &[condition], &[], &[])]);
+        verdict_by_all(&book, &none, &question(0, &[])).0 == 1
+    };
+    let terms = [C, D, E, NIL];
+    for constants in [[7, 7, 8], [0, 7, 0], [0, 0, u32::MAX], [1, 2, 1 << 31]] {
+        let value = |term: u8| match term {
+            NIL => 0,
+            term => constants[(term - C) as usize],
         };
-        if let (Some(without), Some(with)) = (verdict(&book), verdict(&more)) {
-            assert_eq!(without, with, "seed {seed}");
-            yes += with;
+        for a in terms {
+            for b in terms {
+                let same = value(a) == value(b);
+                assert_eq!(holds(&constants, [EQUAL, a, b]), same);
+                assert_eq!(holds(&constants, [UNEQUAL, a, b]), !same);
+            }
         }
     }
-    assert!(yes > 500, "{yes}");
 }
 
-/// The same without constants: every predicate gets them as further arguments,
-/// which each call hands down. Nothing if these are too many.
-fn handed_down(rules: &RuleSet) -> Option<RuleSet> {
-    let more = rules.constants.len();
-    let arguments = rules.arities.iter().max()? + more;
-    let variables = rules.rules.iter().map(|rule| rule.variables).max()? + more;
-    if arguments > 4 || variables > 8 {
+#[test]
+fn in_a_field() {
+    for number in [7, u32::MAX] {
+        let book = book_with(&[1], &[number], &[rule(0, 0, &[], &[(0, &[NIL, C])], &[])]);
+        let ask = question(0, &[10]);
+        let reply = |fields: &[u32]| verdict_by_all(&book, &snapshot(&[(10, fields)]), &ask);
+        assert_eq!(reply(&[0, number]), (1, [1, 1, 1]));
+        assert_eq!(reply(&[0, number - 1]), (0, [0, 0, 0]));
+        assert_eq!(reply(&[number, 0]), (0, [0, 0, 0]));
+        assert_eq!(reply(&[0, 0]), (0, [0, 0, 0]));
+        assert_eq!(reply(&[0]), (0, [0, 0, 0]));
+        assert_eq!(reply(&[0, number, 0]), (0, [0, 0, 0]));
+    }
+    // A constant of 0 in a field is nil there.
+    let book = book_with(&[1], &[0], &[rule(0, 0, &[], &[(0, &[C])], &[])]);
+    let reply = verdict_by_all(&book, &snapshot(&[(10, &[0])]), &question(0, &[10]));
+    assert_eq!(reply, (1, [1, 1, 1]));
+}
+
+#[test]
+fn in_a_call() {
+    // P if Q(nil, c, a); Q(a, b, c) if b: (a), with c equal to b. So a record's
+    // address may well come from a constant, by way of a variable.
+    for number in [7, u32::MAX] {
+        let rules = [
+            rule(0, 1, &[], &[], &[(1, &[NIL, C, 0])]),
+            rule(1, 0, &[[EQUAL, 2, 1]], &[(1, &[0])], &[]),
+        ];
+        let book = book_with(&[0, 3], &[number], &rules);
+        let ask = question(0, &[]);
+        let reply = |pool: &[(u32, &[u32])]| verdict_by_all(&book, &snapshot(pool), &ask);
+        assert_eq!(reply(&[(number, &[0])]), (1, [2, 2, 2]));
+        assert_eq!(reply(&[(number, &[1])]), (0, [1, 1, 0]));
+        assert_eq!(reply(&[(number - 1, &[0])]), (0, [1, 1, 0]));
+        assert_eq!(reply(&[(3, &[0]), (number, &[0])]), (0, [3, 2, 0]));
+    }
+}
+
+#[test]
+fn an_address_may_equal_a_constant() {
+    // P if a: (a) with a equal to a constant; one of 0 is never an address.
+    let rules = [rule(0, 1, &[[EQUAL, 0, C]], &[(0, &[C])], &[])];
+    for (number, expected) in [
+        (10, (1, [1, 1, 1])),
+        (11, (0, [0, 0, 0])),
+        (0, (0, [0, 0, 0])),
+    ] {
+        let book = book_with(&[0], &[number], &rules);
+        let reply = verdict_by_all(&book, &snapshot(&[(10, &[10])]), &question(0, &[]));
+        assert_eq!(reply, expected, "{number}");
+    }
+}
+
+#[test]
+fn a_bound_variable_beside_all_constants() {
+    // P if a is none of eight constants: there is always a spare.
+    let pure: Vec<[u8; 3]> = (0..8).map(|index| [UNEQUAL, 0, C + index]).collect();
+    let book = book_with(
+        &[0],
+        &[0, 1, 2, 3, 4, 5, 6, 7],
+        &[rule(0, 1, &pure, &[], &[])],
+    );
+    let reply = verdict_by_all(&book, &snapshot(&[]), &question(0, &[]));
+    assert_eq!(reply, (1, [1, 1, 1]));
+    assert_eq!(kept(&book, &snapshot(&[]), &question(0, &[])).len(), 9);
+}
+
+#[test]
+fn typed_pools() {
+    let list = snapshot(&[(10, &[7, 20]), (20, &[7, 0])]);
+    let wrong = snapshot(&[(10, &[7, 20]), (20, &[8, 0])]);
+    let tree = snapshot(&[(10, &[20, 1, 30, 1]), (20, &[5]), (30, &[0])]);
+    let segment = snapshot(&[(10, &[9, 20]), (20, &[9, 30])]);
+    type Row<'a> = (Vec<u8>, &'a [u8], &'a [u32], u32);
+    let rows: [Row; 12] = [
+        (typed_list(), &list, &[10], 1),
+        (typed_list(), &list, &[20], 0),
+        (typed_list(), &wrong, &[10], 0),
+        (typed_list(), &snapshot(&[]), &[0], 1),
+        (typed_tree(), &tree, &[10, 3], 1),
+        (typed_tree(), &tree, &[10, 1], 0),
+        (typed_tree(), &tree, &[10, 0], 0),
+        (typed_tree(), &snapshot(&[(20, &[5])]), &[20, 1], 1),
+        (typed_segment(), &segment, &[10, 30, 9], 1),
+        (typed_segment(), &segment, &[10, 30, 7], 0),
+        (typed_segment(), &segment, &[10, 20, 9], 0),
+        (typed_segment(), &snapshot(&[]), &[10, 10, 5], 1),
+    ];
+    for (row, (book, pool, values, expected)) in rows.into_iter().enumerate() {
+        let ask = question(0, values);
+        // These rules are too wide for all assignments.
+        let reply = api::decide(&book, pool, &ask, 1024, 3072).reply;
+        assert_eq!((reply.refusal, reply.verdict), (0, expected), "row {row}");
+        assert_eq!(api::walk(&book, pool, &ask).verdict, expected, "row {row}");
+        let problem = problem(&book, pool, &ask);
+        let by_hand = tree::search(&problem, 1, 4, 200_000);
+        assert_eq!(
+            matches!(by_hand, Answer::Yes(_)),
+            expected == 1,
+            "row {row}"
+        );
+        assert_ne!(by_hand, Answer::OutOfBudget, "row {row}");
+    }
+}
+
+// Unfoldings.
+
+#[test]
+fn what_the_check_says_of_constants() {
+    // P(a) if a: (c, b) and Q(d, b); Q(a, b) if b unequal c. Kept values: 0, a
+    // spare 1 and 2, constants 7 and 9, address 10 and field 20.
+    let rules = [
+        rule(0, 1, &[], &[(0, &[C, 1])], &[(1, &[D, 1])]),
+        rule(1, 0, &[[UNEQUAL, 1, C]], &[], &[]),
+    ];
+    let book = book_with(&[1, 2], &[7, 9], &rules);
+    let ask = question(0, &[10]);
+    let good = [
+        [fact::pack(1, &[4, 6], 0), 4 | 6 << 8, 1],
+        [fact::pack(0, &[5], 1), 5 | 6 << 8, 1 << 8],
+    ];
+    let of = |fields: &[u32]| problem(&book, &snapshot(&[(10, fields)]), &ask);
+    let pool = of(&[7, 20]);
+    assert_eq!(Domain::of(&pool).values(), [0, 1, 2, 7, 9, 10, 20]);
+    assert_eq!(check::first_broken(&pool, &good.concat()), Ok(()));
+    let opened = tree::open(&pool, &good.concat(), 10).unwrap();
+    assert!(tree::answers(&pool, &opened));
+    // The called line has the first constant for the second.
+    let mut other = good;
+    other[0] = [fact::pack(1, &[3, 6], 0), 3 | 6 << 8, 1];
+    assert_eq!(
+        check::first_broken(&pool, &other.concat()),
+        Err(Broken::CalledArguments)
+    );
+    // Its condition is false: b is the first constant.
+    other[0] = [fact::pack(1, &[4, 3], 0), 4 | 3 << 8, 1];
+    assert_eq!(
+        check::first_broken(&pool, &other.concat()),
+        Err(Broken::Pure)
+    );
+    // The record has the second constant in its field.
+    let pool = of(&[9, 20]);
+    assert_eq!(
+        check::first_broken(&pool, &good.concat()),
+        Err(Broken::Cell)
+    );
+    let opened = tree::open(&pool, &good.concat(), 10).unwrap();
+    assert!(!tree::answers(&pool, &opened));
+}
+
+#[test]
+fn no_flipped_bit_gets_a_false_unfolding_taken() {
+    let list = snapshot(&[(10, &[7, 20]), (20, &[7, 0])]);
+    let tree = snapshot(&[(10, &[20, 1, 30, 1]), (20, &[5]), (30, &[0])]);
+    let pools = [
+        (typed_list(), list, question(0, &[10])),
+        (typed_tree(), tree, question(0, &[10, 3])),
+    ];
+    for (book, pool, ask) in pools {
+        let outcome = api::decide(&book, &pool, &ask, 1024, 3072);
+        assert_eq!(outcome.reply.verdict, 1);
+        let words = &outcome.memory.unwrap().space[..3 * outcome.reply.lines];
+        let problem = problem(&book, &pool, &ask);
+        for index in 0..words.len() {
+            for bit in 0..64 {
+                let mut flipped = words.to_vec();
+                flipped[index] ^= 1 << bit;
+                if api::check(&book, &pool, &ask, &flipped) == (0, 1) {
+                    let tree = tree::open(&problem, &flipped, 1000).unwrap();
+                    assert!(tree::answers(&problem, &tree));
+                }
+            }
+        }
+    }
+}
+
+#[test]
+fn the_bench_program_takes_constants() {
+    let parts = [
+        typed_list(),
+        snapshot(&[(10, &[7, 20]), (20, &[7, 0])]),
+        question(0, &[10]),
+    ];
+    let mut input = Vec::new();
+    for part in &parts {
+        input.extend((part.len() as u16).to_le_bytes());
+        input.extend(part);
+    }
+    let line = "refusal 0 verdict 1 facts 3 rounds 3 lines 3\n";
+    assert_eq!(api::bench(&input), line);
+    assert_eq!(api::desk_engine(&parts[0], &parts[1], &parts[2]), 1);
+}
+
+// Only the values matter.
+
+/// The same book with its constants in another order, some of them twice if
+/// there is room, and terms of 0 as nil or as a constant at random.
+fn rewritten(dice: &mut Dice, book: &[u8]) -> Vec<u8> {
+    let mut set = read(book);
+    set.constants.rotate_left(1);
+    if set.constants.len() < 8 {
+        let again = dice.pick(&set.constants);
+        set.constants.insert(0, again);
+    }
+    let has_zero = set.constants.contains(&0);
+    let mut turn = |term: &mut Term| {
+        if has_zero && term.number() == Some(0) {
+            *term = dice.pick(&[Term::Nil, Term::Constant(0)]);
+        }
+    };
+    for rule in &mut set.rules {
+        for pure in &mut rule.pure {
+            turn(&mut pure.left);
+            turn(&mut pure.right);
+        }
+        rule.cells
+            .iter_mut()
+            .flat_map(|cell| &mut cell.fields)
+            .for_each(&mut turn);
+        rule.calls
+            .iter_mut()
+            .flat_map(|call| &mut call.arguments)
+            .for_each(&mut turn);
+    }
+    written(&set)
+}
+
+#[test]
+fn only_values_matter() {
+    let (mut fits, mut plain, mut changed) = (0, 0, 0);
+    for seed in 0..6000 {
+        let mut dice = Dice::with_constants(50_000_000 + seed, 4);
+        let book = match seed % 2 {
+            0 => dice.book(4),
+            _ => dice.split_book(),
+        };
+        let (pool, ask) = dice.grown(&book, 4);
+        let other = rewritten(&mut dice, &book);
+        changed += (other != book) as usize;
+        let first = api::decide(&book, &pool, &ask, 500, 1500);
+        // Replies and all that is written, to the last bit.
+        assert_eq!(
+            first,
+            api::decide(&other, &pool, &ask, 500, 1500),
+            "seed {seed}"
+        );
+        assert_eq!(
+            api::decide_part(&book, &pool, &ask, 500, 1500),
+            api::decide_part(&other, &pool, &ask, 500, 1500),
+            "seed {seed}"
+        );
+        assert_eq!(
+            api::walk(&book, &pool, &ask),
+            api::walk(&other, &pool, &ask)
+        );
+        assert_eq!(
+            api::plain_book(&book),
+            api::plain_book(&other),
+            "seed {seed}"
+        );
+        fits += first.reply.verdict;
+        plain += (api::plain_book(&book) == Ok(true)) as usize;
+    }
+    assert!(
+        fits > 500 && plain > 500 && changed > 4000,
+        "{fits} {plain} {changed}"
+    );
+}
+
+// Arguments instead of constants.
+
+/// The book without constants: each predicate has further arguments for them,
+/// handed on in every call. Nothing if that is too many.
+fn as_arguments(set: &RuleSet) -> Option<RuleSet> {
+    let more = set.constants.len();
+    let wide = set.rules.iter().any(|rule| rule.variables + more > 8);
+    if wide || set.arities.iter().any(|arity| arity + more > 4) {
         return None;
     }
-    let mut without = rules.clone();
-    without.constants.clear();
-    without.arities.iter_mut().for_each(|arity| *arity += more);
-    for rule in &mut without.rules {
-        let arity = rules.arities[rule.head];
-        let moved = |variable: usize| variable + if variable < arity { 0 } else { more };
-        let change = |term: &mut Term| {
+    let mut other = set.clone();
+    other.constants.clear();
+    for arity in &mut other.arities {
+        *arity += more;
+    }
+    for rule in &mut other.rules {
+        let arity = set.arities[rule.head];
+        let variable = |variable: usize| variable + if variable < arity { 0 } else { more };
+        let place = |value: u32| set.constants.iter().position(|&other| other == value);
+        let term = |term: &mut Term| {
             *term = match *term {
-                Term::Variable(variable) => Term::Variable(moved(variable)),
-                Term::Number(number) => {
-                    let index = rules.constants.iter().position(|&other| other == number);
-                    index.map_or(Term::Number(0), |index| Term::Variable(arity + index))
-                }
+                Term::Nil => Term::Nil,
+                Term::Constant(value) => Term::Variable(arity + place(value).unwrap()),
+                Term::Variable(number) => Term::Variable(variable(number)),
             }
         };
         rule.variables += more;
         for pure in &mut rule.pure {
-            change(&mut pure.left);
-            change(&mut pure.right);
+            term(&mut pure.left);
+            term(&mut pure.right);
         }
         for cell in &mut rule.cells {
-            cell.address = moved(cell.address);
-            cell.fields.iter_mut().for_each(change);
+            cell.address = variable(cell.address);
+            cell.fields.iter_mut().for_each(term);
         }
         for call in &mut rule.calls {
-            call.arguments.iter_mut().for_each(change);
-            let further = (0..more).map(|index| Term::Variable(arity + index));
+            call.arguments.iter_mut().for_each(term);
+            let further = (arity..arity + more).map(Term::Variable);
             call.arguments.extend(further);
         }
     }
-    Some(without)
+    Some(other)
 }
 
-/// A constant means what an argument with its value does.
 #[test]
-fn constants_against_arguments() {
-    let (mut kinds, mut parts_found) = ([0; 2], 0);
-    for seed in 0..12_000 {
-        let mut dice = Dice::new(52_000_000 + seed);
+fn against_arguments_instead_of_constants() {
+    let (mut fits, mut not, mut proper, mut kinds) = (0, 0, 0, [0; 4]);
+    for seed in 0..16_000 {
+        let mut dice = Dice::with_constants(60_000_000 + seed, 2);
         let book = match seed % 2 {
-            0 => dice.book(3),
+            0 => dice.book(4),
             _ => dice.split_book(),
         };
-        let rules = read(&book);
-        let Some(without) = handed_down(&rules) else {
+        let (pool, ask) = match seed % 3 {
+            0 => (dice.snapshot(4), dice.question(&book)),
+            _ => dice.grown(&book, 5),
+        };
+        let before = problem(&book, &pool, &ask);
+        let Some(rules) = as_arguments(&before.rules) else {
             continue;
         };
-        if rules.constants.is_empty() {
-            continue;
-        }
-        let (pool, asked) = dice.grown(&book, 4);
-        let with = problem(&book, &pool, &asked);
-        let values = [&with.query.values[..], &rules.constants[..]].concat();
-        let asked = question(with.query.predicate as u8, &values);
-        let without = problem(&written(&without), &pool, &asked);
+        // What the head fixes is fixed, as a constant is; and rules that are
+        // apart for all further arguments are so for the constants.
+        assert_eq!(plain::consuming(&before.rules), plain::consuming(&rules));
+        let fixed = plain::variables_fixed(&before.rules);
+        assert_eq!(fixed, plain::variables_fixed(&rules), "seed {seed}");
+        let apart = plain::exclusive(&before.rules);
+        assert!(apart || !plain::exclusive(&rules), "seed {seed}");
+        kinds[fixed as usize + 2 * apart as usize] += 1;
+
+        let mut query = before.query.clone();
+        query.values.extend(&before.rules.constants);
+        let after = Problem {
+            rules,
+            heap: before.heap.clone(),
+            query,
+        };
         let parts = |problem: &Problem| {
             let domain = Domain::of(problem);
-            let facts = fixpoint::facts(problem, &domain, 3000)?;
+            let facts = fixpoint::facts(problem, &domain, 1500)?;
             Some(verdict::fitting_parts(problem, &domain, &facts.table))
         };
-        if let (Some(first), Some(second)) = (parts(&with), parts(&without)) {
-            assert_eq!(first, second, "seed {seed}");
-            kinds[first.contains(&fact::all_records(&with)) as usize] += 1;
-            parts_found += first.iter().any(|&part| part != 0) as usize;
+        let (Some(with), Some(without)) = (parts(&before), parts(&after)) else {
+            continue;
+        };
+        assert_eq!(with, without, "seed {seed}");
+        let all = fact::all_records(&before);
+        let yes = with.contains(&all);
+        fits += yes as usize;
+        not += !yes as usize;
+        proper += with.iter().any(|&part| part != 0 && part != all) as usize;
+    }
+    assert!(
+        fits > 1000 && not > 1000 && proper > 100,
+        "{fits} {not} {proper}"
+    );
+    assert!(kinds.iter().all(|&kind| kind > 300), "{kinds:?}");
+}
+
+// Slower ways.
+
+#[test]
+fn table_against_all_assignments() {
+    let (mut full, mut fits, mut late) = (0, 0, 0);
+    for seed in 0..6000 {
+        let mut dice = Dice::with_constants(70_000_000 + seed, 3);
+        let book = dice.book(3);
+        let (snapshot, question) = match seed % 2 {
+            0 => (dice.snapshot(3), dice.question(&book)),
+            _ => dice.grown(&book, 3),
+        };
+        let problem = problem(&book, &snapshot, &question);
+        if problem.rules.rules.iter().any(|rule| rule.variables > 4) {
+            continue;
+        }
+        let domain = Domain::of(&problem);
+        let by_rounds = fixpoint::facts(&problem, &domain, 300);
+        let by_all = naive::table(&problem, &domain, 300);
+        let Some((table, rounds)) = by_all else {
+            assert!(by_rounds.is_none(), "seed {seed}");
+            full += 1;
+            continue;
+        };
+        let by_rounds = by_rounds.expect("the table holds them all");
+        assert_eq!(by_rounds.table, table, "seed {seed}");
+        assert_eq!(by_rounds.rounds, rounds, "seed {seed}");
+        fits += table.contains(&fact::of_query(&problem, &domain)) as usize;
+        late += (rounds > 2) as usize;
+    }
+    assert!(
+        full > 100 && fits > 500 && late > 100,
+        "{full} {fits} {late}"
+    );
+}
+
+#[test]
+fn parts_against_pools_of_their_own() {
+    let (mut none, mut several, mut proper) = (0, 0, 0);
+    for seed in 0..3000 {
+        let mut dice = Dice::with_constants(75_000_000 + seed, 3);
+        let book = dice.book(3);
+        let (snapshot, question) = dice.grown(&book, 3);
+        let problem = problem(&book, &snapshot, &question);
+        if problem.rules.rules.iter().any(|rule| rule.variables > 4) {
+            continue;
+        }
+        let domain = Domain::of(&problem);
+        let Some(facts) = fixpoint::facts(&problem, &domain, 300) else {
+            continue;
+        };
+        let parts = verdict::fitting_parts(&problem, &domain, &facts.table);
+        let alone = naive::fitting_parts(&problem, 300).expect("the tables hold them all");
+        assert_eq!(parts, alone, "seed {seed}");
+        let all = fact::all_records(&problem);
+        for part in 0..=all {
+            let words = certificate::build_part(&problem, &domain, &facts, part);
+            assert_eq!(words.is_some(), parts.contains(&part), "seed {seed}");
+            if let Some(words) = words {
+                assert!(check::takes_part(&problem, part, &words), "seed {seed}");
+                engine_promises(&words);
+            }
+        }
+        none += parts.is_empty() as usize;
+        several += (parts.len() > 1) as usize;
+        proper += parts.iter().any(|&part| part != 0 && part != all) as usize;
+    }
+    assert!(
+        none > 300 && several > 20 && proper > 50,
+        "{none} {several} {proper}"
+    );
+}
+
+#[test]
+fn certificates_and_verdicts() {
+    let (mut yes, mut none, mut long) = (0, 0, 0);
+    for seed in 0..16_000 {
+        let mut dice = Dice::with_constants(80_000_000 + seed, 4);
+        let book = dice.book(4);
+        let (snapshot, question) = match seed % 2 {
+            0 => (dice.snapshot(4), dice.question(&book)),
+            _ => dice.grown(&book, 4),
+        };
+        let outcome = api::decide(&book, &snapshot, &question, 500, 1500);
+        let reply = outcome.reply;
+        let memory = outcome.memory.expect("no fault before the table");
+        if reply.refusal == 11 {
+            continue;
+        }
+        let problem = problem(&book, &snapshot, &question);
+        let (words, rest) = memory.space.split_at(3 * reply.lines);
+        assert!(rest.iter().all(|&word| word == 0));
+        if reply.verdict == 1 {
+            assert!(check::takes(&problem, words), "seed {seed}");
+            engine_promises(words);
+            long += (reply.lines > 3) as usize;
+            if let Some(tree) = tree::open(&problem, words, 10_000) {
+                assert!(tree::answers(&problem, &tree), "seed {seed}");
+            }
+        }
+        match tree::search(&problem, 2, (reply.rounds + 1).min(6), 20_000) {
+            Answer::Yes(tree) => {
+                assert_eq!(reply.verdict, 1, "seed {seed}");
+                assert!(tree::answers(&problem, &tree), "seed {seed}");
+                yes += 1;
+            }
+            Answer::NoneFound => {
+                assert!(reply.verdict == 0 || reply.rounds > 6, "seed {seed}");
+                none += 1;
+            }
+            Answer::OutOfBudget => {}
         }
     }
     assert!(
-        kinds.iter().all(|&kind| kind > 300) && parts_found > 150,
-        "{kinds:?} {parts_found}"
+        yes > 1000 && none > 1000 && long > 50,
+        "{yes} {none} {long}"
     );
+}
+
+#[test]
+fn the_walk_against_the_engine_and_by_hand() {
+    let (mut kinds, mut by_hand) = ([0; 4], [0; 2]);
+    for seed in 0..20_000 {
+        let mut dice = Dice::with_constants(90_000_000 + seed, 4);
+        let book = match seed % 4 {
+            0 => dice.book(4),
+            _ => dice.split_book(),
+        };
+        let (pool, question) = match seed % 3 {
+            0 => (dice.snapshot(4), dice.question(&book)),
+            _ => dice.grown(&book, 6),
+        };
+        let problem = problem(&book, &pool, &question);
+        let plain = plain::plain(&problem.rules);
+        let answer = walk::answer(&problem, 50_000);
+        let yes = answer == walk::Answer::Yes;
+        if answer == walk::Answer::OutOfBudget {
+            assert!(!plain, "seed {seed}");
+            continue;
+        }
+        assert_eq!(api::walk(&book, &pool, &question).verdict, yes as u32);
+        let outcome = api::decide(&book, &pool, &question, 600, 1800);
+        if outcome.reply.refusal == 11 {
+            continue;
+        }
+        let engine = outcome.reply.verdict == 1;
+        if plain {
+            assert_eq!(yes, engine, "seed {seed}");
+            let table = &outcome.memory.unwrap().table[..outcome.reply.facts];
+            let domain = Domain::of(&problem);
+            assert!(verdict::fitting_parts(&problem, &domain, table).len() <= 1);
+        }
+        assert!(engine || !yes, "seed {seed}");
+        let unfolded = without_calls_alone(&book);
+        let engine_on_these = api::decide(&unfolded, &pool, &question, 600, 1800).reply;
+        assert_eq!(engine_on_these.refusal, 0);
+        assert_eq!(engine_on_these.verdict, yes as u32, "seed {seed}");
+        kinds[plain as usize + 2 * yes as usize] += 1;
+        if plain {
+            let depth = problem.heap.records.len() + 1;
+            match tree::search(&problem, 2, depth, 20_000) {
+                Answer::Yes(tree) => {
+                    assert!(yes && tree::answers(&problem, &tree), "seed {seed}");
+                    by_hand[1] += 1;
+                }
+                Answer::NoneFound => {
+                    assert!(!yes, "seed {seed}");
+                    by_hand[0] += 1;
+                }
+                Answer::OutOfBudget => {}
+            }
+        }
+    }
+    assert!(kinds.iter().all(|&kind| kind > 500), "{kinds:?}");
+    assert!(by_hand.iter().all(|&kind| kind > 500), "{by_hand:?}");
+}
+
+// Plain books.
+
+#[test]
+fn plain_books_with_constants() {
+    for book in plain_typed_books() {
+        assert_eq!(api::plain_book(&book), Ok(true), "{book:?}");
+    }
+    // The tree's types made equal, and one of them 0: the latter is still
+    // another number.
+    let tree = |types: &[u32; 2]| {
+        let mut set = read(&typed_tree());
+        set.constants = types.to_vec();
+        set.rules[0].pure[0].right = Term::Constant(types[0]);
+        set.rules[1].pure[0].left = Term::Constant(types[1]);
+        api::plain_book(&written(&set))
+    };
+    assert_eq!(tree(&[1, 3]), Ok(true));
+    assert_eq!(tree(&[3, 3]), Ok(false));
+    assert_eq!(tree(&[0, 3]), Ok(true));
+    assert_eq!(tree(&[0, 0]), Ok(false));
+    assert_eq!(tree(&[u32::MAX, u32::MAX - 1]), Ok(true));
+}
+
+/// The variables that are fixed in a rule for a predicate without arguments.
+fn fixed(pure: &[[u8; 3]], cells: &[(u8, &[u8])]) -> Vec<usize> {
+    let rules = read(&book_with(&[0], &[7, 8], &[rule(0, 4, pure, cells, &[])]));
+    let fixed = plain::fixed(&rules.rules[0], 0);
+    assert_eq!(plain::variables_fixed(&rules), fixed == [true; 4]);
+    (0..4).filter(|&variable| fixed[variable]).collect()
+}
+
+#[test]
+fn a_constant_fixes_a_variable() {
+    let chain = [[EQUAL, 3, 2], [EQUAL, 2, 1], [EQUAL, 1, 0], [EQUAL, C, 0]];
+    let two = [[EQUAL, 3, C], [EQUAL, D, 1]];
+    assert_eq!(fixed(&chain, &[]), [0, 1, 2, 3]);
+    assert_eq!(fixed(&chain[..3], &[]), []);
+    assert_eq!(fixed(&two, &[]), [1, 3]);
+    // Unequal to a constant, or constants among themselves.
+    assert_eq!(fixed(&[[UNEQUAL, 0, C]], &[]), []);
+    assert_eq!(fixed(&[[EQUAL, D, C], [EQUAL, C, C]], &[]), []);
+    // An address that is a constant's, and the fields from there.
+    assert_eq!(
+        fixed(&[[EQUAL, 0, C]], &[(1, &[2]), (0, &[1, C])]),
+        [0, 1, 2]
+    );
+    // A constant in a field says nothing about the address.
+    assert_eq!(fixed(&[], &[(0, &[C, 1])]), []);
+}
+
+/// Whether two rules with these conditions on two arguments are apart. Each
+/// has a third variable that is bound.
+fn apart(constants: &[u32], first: &[[u8; 3]], second: &[[u8; 3]]) -> bool {
+    let both = [first, second].map(|pure| rule(0, 1, pure, &[], &[]));
+    let rules = read(&book_with(&[2], constants, &both));
+    let answer = plain::exclusive(&rules);
+    assert_eq!(answer, naive::exclusive(&rules));
+    answer
+}
+
+#[test]
+fn different_constants_are_unequal() {
+    let (c, d) = ([EQUAL, 0, C], [EQUAL, D, 0]);
+    assert!(apart(&[7, 8], &[c], &[d]));
+    assert!(!apart(&[7, 7], &[c], &[d]));
+    assert!(!apart(&[0, 0], &[c], &[d]));
+    assert!(apart(&[0, 7], &[c], &[d]));
+    // Nil against a constant of 0, and of another number.
+    assert!(!apart(&[0], &[c], &[[EQUAL, 0, NIL]]));
+    assert!(apart(&[7], &[c], &[[EQUAL, 0, NIL]]));
+    assert!(apart(&[0], &[c], &[[UNEQUAL, NIL, 0]]));
+    assert!(!apart(&[7], &[c], &[[UNEQUAL, NIL, 0]]));
+    // A constant and any other number; both of two others.
+    assert!(apart(&[7], &[c], &[[UNEQUAL, 0, C]]));
+    assert!(apart(&[7, 7], &[c], &[[UNEQUAL, 0, D]]));
+    assert!(!apart(&[7, 8], &[c], &[[UNEQUAL, 0, D]]));
+    assert!(!apart(&[7, 8], &[[UNEQUAL, 0, C]], &[[UNEQUAL, 0, D]]));
+    // Another argument is no matter.
+    assert!(!apart(&[7, 8], &[c], &[[EQUAL, 1, D]]));
+    // By way of the arguments, and of bound variables, which each rule has
+    // for itself.
+    let (same, chain) = ([EQUAL, 0, 1], [[EQUAL, 2, D], [EQUAL, 1, 2]]);
+    assert!(apart(&[7, 8], &[c, same], &chain));
+    assert!(!apart(&[7, 7], &[c, same], &chain));
+    assert!(!apart(&[7, 8], &[c], &chain));
+    assert!(!apart(&[7, 8], &[[EQUAL, 2, C]], &[[EQUAL, 2, D]]));
+    assert!(!apart(&[7, 8], &[[EQUAL, 2, C]], &[[UNEQUAL, 2, C]]));
+}
+
+#[test]
+fn conditions_that_only_name_constants() {
+    let (same, other) = ([EQUAL, C, D], [UNEQUAL, C, D]);
+    for constants in [[7, 7], [0, 0]] {
+        assert!(!apart(&constants, &[same], &[]));
+        assert!(apart(&constants, &[other], &[]));
+        assert!(apart(&constants, &[other], &[other]));
+    }
+    for constants in [[7, 8], [0, 8]] {
+        assert!(apart(&constants, &[same], &[]));
+        assert!(!apart(&constants, &[other], &[]));
+        assert!(!apart(&constants, &[other], &[other]));
+    }
+    assert!(apart(&[7], &[[EQUAL, C, NIL]], &[]));
+    assert!(!apart(&[0], &[[EQUAL, C, NIL]], &[]));
+    // One variable with two different constants.
+    assert!(apart(&[7, 8], &[[EQUAL, 2, C], [EQUAL, 2, D]], &[]));
+}
+
+/// How many ways the slow way would have to try.
+fn ways(rules: &RuleSet) -> usize {
+    let widest = rules.rules.iter().map(|rule| rule.variables).max();
+    let size = 2 * widest.unwrap_or(0) - rules.arities.iter().min().unwrap();
+    (1 + rules.constants.len() + size).pow(size as u32)
+}
+
+#[test]
+fn exclusive_against_all_numbers() {
+    let (mut answers, mut equal, mut zero) = ([0; 2], 0, 0);
+    for seed in 0..60_000 {
+        let mut dice = Dice::with_constants(100_000_000 + seed, 3);
+        let book = match seed % 3 {
+            0 => dice.split_book(),
+            _ => dice.conditions(2, 3),
+        };
+        let rules = read(&book);
+        if ways(&rules) > 60_000 {
+            continue;
+        }
+        let exclusive = plain::exclusive(&rules);
+        assert_eq!(exclusive, naive::exclusive(&rules), "seed {seed}");
+        answers[exclusive as usize] += 1;
+        let numbers = &rules.constants;
+        equal += (1..numbers.len()).any(|at| numbers[..at].contains(&numbers[at])) as usize;
+        zero += numbers.contains(&0) as usize;
+    }
+    assert!(answers.iter().all(|&times| times > 5000), "{answers:?}");
+    assert!(equal > 3000 && zero > 8000, "{equal} {zero}");
+}
+
+/// Sixteen rules of one predicate, eight variables, eight conditions and eight
+/// constants, made so that a search through numbers ends late or never.
+fn hostile_books() -> Vec<Vec<u8>> {
+    let constants = [1, 2, 3, 4, 5, 6, 7, 8];
+    let mut books = Vec::new();
+    for arity in 0..=4u8 {
+        let bound = 8 - arity;
+        let mut sets: Vec<Vec<[u8; 3]>> = Vec::new();
+        // The last variable is no constant but one, and is another one.
+        let mut none: Vec<[u8; 3]> = (0..7).map(|index| [UNEQUAL, 7, C + index]).collect();
+        none.push([EQUAL, 7, C]);
+        sets.push(none);
+        // A contradiction between the last variables.
+        sets.push(vec![[EQUAL, 6, 7], [UNEQUAL, 7, 6]]);
+        sets.push(vec![[UNEQUAL, 7, 7]]);
+        sets.push(vec![[EQUAL, C, D]]);
+        // A chain through all variables with a constant at either end.
+        let mut chain: Vec<[u8; 3]> = (0..7).map(|index| [EQUAL, index, index + 1]).collect();
+        chain.push([UNEQUAL, 0, 7]);
+        sets.push(chain.clone());
+        chain[7] = [EQUAL, 7, C];
+        sets.push(chain);
+        // All variables unequal in a ring, and pairs with constants.
+        sets.push(
+            (0..8)
+                .map(|index| [UNEQUAL, index, (index + 1) % 8])
+                .collect(),
+        );
+        sets.push((0..8).map(|index| [UNEQUAL, index, C + index]).collect());
+        sets.push((0..8).map(|index| [EQUAL, 7 - index, C + index]).collect());
+        sets.push(vec![]);
+        for first in &sets {
+            for second in &sets {
+                let rules: Vec<Vec<u8>> = (0..16)
+                    .map(|number| {
+                        let pure = if number % 2 == 0 { first } else { second };
+                        rule(0, bound, pure, &[], &[])
+                    })
+                    .collect();
+                books.push(book_with(&[arity], &constants, &rules));
+                books.push(book_with(&[arity], &[9; 8], &rules));
+            }
+        }
+    }
+    books
+}
+
+#[test]
+fn plain_is_quick_on_every_book() {
+    let mut slowest = Duration::ZERO;
+    let mut time = |book: &[u8]| {
+        let rules = read(book);
+        // The best of three, since others use the machine as well.
+        let once = || {
+            let start = Instant::now();
+            assert!(api::plain_book(book).is_ok());
+            // All demands, though the book may fail the first.
+            plain::variables_fixed(&rules);
+            plain::exclusive(&rules);
+            start.elapsed()
+        };
+        let best = (0..3).map(|_| once()).min().unwrap();
+        slowest = slowest.max(best);
+    };
+    let hostile = hostile_books();
+    assert!(hostile.iter().all(|book| read(book).rules.len() == 16));
+    for book in &hostile {
+        time(book);
+    }
+    for seed in 0..4000 {
+        let mut dice = Dice::with_constants(110_000_000 + seed, 8);
+        let arity = dice.between(0, 4) as u8;
+        let rules: Vec<Vec<u8>> = (0..16)
+            .map(|_| {
+                let pure: Vec<[u8; 3]> = (0..8).map(|_| dice.condition(8)).collect();
+                rule(0, 8 - arity, &pure, &[], &[])
+            })
+            .collect();
+        time(&book_with(&[arity], &dice.constants(), &rules));
+    }
+    println!("slowest plain book: {slowest:?}");
+    assert!(slowest < Duration::from_millis(100), "{slowest:?}");
+}
+
+/// Rules with eight variables over many kept values: late contradictions,
+/// conditions against all constants, and calls between.
+#[test]
+fn the_table_is_quick_with_constants() {
+    let mut slowest = Duration::ZERO;
+    for book in hostile_books() {
+        let arity = book[1] as usize;
+        let ask = question(0, &vec![1; arity]);
+        let start = Instant::now();
+        api::decide(&book, &wide_pool(), &ask, 1024, 3072);
+        slowest = slowest.max(start.elapsed());
+    }
+    // Q(a, b) for all a and b that are none of the constants; P if Q three
+    // times, all arguments being none of them.
+    let apart = |variables: u8| -> Vec<[u8; 3]> {
+        (0..8)
+            .map(|index| [UNEQUAL, index % variables, C + index])
+            .collect()
+    };
+    let calls: [(u8, &[u8]); 3] = [(1, &[0, 1]), (1, &[2, 3]), (1, &[4, 5])];
+    let rules = [
+        rule(0, 6, &apart(6), &[], &calls),
+        rule(1, 0, &apart(2), &[], &[]),
+    ];
+    let book = book_with(&[0, 2], &EIGHT, &rules);
+    let start = Instant::now();
+    let reply = api::decide(&book, &wide_pool(), &question(0, &[]), 65_535, 196_605).reply;
+    slowest = slowest.max(start.elapsed());
+    assert_eq!(
+        (reply.refusal, reply.facts, reply.rounds),
+        (0, 91 * 91 + 1, 2)
+    );
+    println!("slowest table: {slowest:?}");
+    assert!(slowest < Duration::from_secs(2), "{slowest:?}");
+}
+
+#[test]
+fn kinds_are_read_as_before() {
+    // A byte of a constant's range is no kind and no predicate.
+    assert_eq!(book_refusal(&[1, 0, 1, 5, 0, 0, 0, 1, C]), 3);
+    assert_eq!(book_refusal(&[1, 0, 1, 5, 0, 0, 0, 1, 0, 0, 1, C]), 3);
+    let equal = [1, 0, 1, 5, 0, 0, 0, 1, 0, 0, 1, 0, C, NIL, 0, 0];
+    assert_eq!(read(&equal).rules[0].pure[0].kind, Kind::Equal);
 }

@@ -5,8 +5,9 @@ mod common;
 
 use common::*;
 use reference::api;
-use reference::formats::{self, Kind, RuleSet, Term};
+use reference::formats::{self, Kind, Rule, RuleSet, Term};
 use reference::{naive, plain};
+use std::collections::BTreeSet;
 
 fn read(book: &[u8]) -> RuleSet {
     formats::read_rule_set(book).expect("no fault")
@@ -56,7 +57,7 @@ fn refused_books() {
     let mut book = plain_segment();
     book.push(0);
     assert_eq!(api::plain_book(&book), Err(4));
-    assert_eq!(api::plain_book(&book[..9]), Err(1));
+    assert_eq!(api::plain_book(&book[..10]), Err(1));
     assert_eq!(api::plain_book(&[9]), Err(2));
     assert_eq!(api::plain_book(&[1, 0, 0, 1, 1]), Err(3));
 }
@@ -125,34 +126,6 @@ fn what_fixes_a_variable() {
     for (row, (pure, cells, expected)) in rows.into_iter().enumerate() {
         assert_eq!(fixed(pure, cells), expected, "row {row}");
     }
-}
-
-/// Variables once more, with constants 7, 7, 8 and 0 at hand.
-#[test]
-fn what_constants_fix() {
-    let fixed = |pure: &[[u8; 3]], cells: &[(u8, &[u8])]| -> Vec<usize> {
-        let book = book_with(&[7, 7, 8, 0], &[1], &[rule(0, 3, pure, cells, &[])]);
-        let rules = read(&book);
-        let fixed = plain::fixed(&rules.rules[0], 1);
-        assert_eq!(demands(&book)[1], fixed == [true; 4]);
-        (0..4).filter(|&variable| fixed[variable]).collect()
-    };
-    for constant in 128..132 {
-        // Equal to it, either way round and along a chain.
-        assert_eq!(fixed(&[[EQUAL, 1, constant]], &[]), [0, 1]);
-        assert_eq!(fixed(&[[EQUAL, constant, 2]], &[]), [0, 2]);
-        let chain = [[EQUAL, 3, 2], [EQUAL, 2, 1], [EQUAL, constant, 1]];
-        assert_eq!(fixed(&chain, &[]), [0, 1, 2, 3]);
-        // Not by unequal, nor by two constants that are equal.
-        assert_eq!(fixed(&[[UNEQUAL, 1, constant]], &[]), [0]);
-        assert_eq!(fixed(&[[EQUAL, constant, 128]], &[]), [0]);
-        // Fields of an address that equals it; not the address of its field.
-        assert_eq!(fixed(&[[EQUAL, 2, constant]], &[(2, &[3])]), [0, 2, 3]);
-        assert_eq!(fixed(&[], &[(2, &[constant, 3])]), [0]);
-        assert_eq!(fixed(&[], &[(0, &[constant, 3])]), [0, 3]);
-    }
-    // Two that differ, so that no number is right: it is fixed all the same.
-    assert_eq!(fixed(&[[EQUAL, 1, 128], [EQUAL, 1, 130]], &[]), [0, 1]);
 }
 
 #[test]
@@ -248,108 +221,6 @@ fn each_rule_has_bound_numbers_of_its_own() {
     assert_eq!(demands(&both), [true, false, false]);
 }
 
-/// As `pair`, with constants 7, 8, 7 again and 0.
-fn pair_with(first: &[[u8; 3]], second: &[[u8; 3]]) -> bool {
-    let both = |pure: &[[u8; 3]]| {
-        let fixing = [[EQUAL, 2, 0], [EQUAL, 3, 1]];
-        rule(0, 2, &[&fixing, pure].concat(), &[], &[])
-    };
-    let ask = |one, other| {
-        let book = book_with(&[7, 8, 7, 0], &[2], &[both(one), both(other)]);
-        let answer = demands(&book);
-        assert_eq!(answer[2], naive::exclusive(&read(&book)));
-        assert_eq!(answer[2], exclusive_by_classes(&read(&book)));
-        answer
-    };
-    let answer = ask(first, second);
-    assert_eq!(answer, ask(second, first));
-    assert_eq!(answer[..2], [true, true]);
-    answer[2]
-}
-
-#[test]
-fn constants_that_exclude_each_other() {
-    let [seven, eight, again, zero] = [128, 129, 130, 131];
-    let is = |constant| [[EQUAL, 0, constant]];
-    let is_not = |constant| [[UNEQUAL, 0, constant]];
-    assert!(pair_with(&is(seven), &is(eight)));
-    assert!(pair_with(&is(eight), &is(again)));
-    assert!(pair_with(&is(seven), &is(NIL)));
-    assert!(pair_with(&is(zero), &is(eight)));
-    // The same value, be it the same constant, an equal one, or 0 and nil.
-    assert!(!pair_with(&is(seven), &is(seven)));
-    assert!(!pair_with(&is(seven), &is(again)));
-    assert!(!pair_with(&is(zero), &is(NIL)));
-    assert!(!pair_with(&is(zero), &is(zero)));
-    // Equal and unequal.
-    assert!(pair_with(&is(seven), &is_not(again)));
-    assert!(pair_with(&is(zero), &is_not(NIL)));
-    assert!(pair_with(&is(NIL), &is_not(zero)));
-    assert!(!pair_with(&is(seven), &is_not(eight)));
-    assert!(!pair_with(&is_not(seven), &is_not(eight)));
-    // Neither 7 nor 8 nor 0 leaves other numbers.
-    let none = [[UNEQUAL, 0, seven], [UNEQUAL, eight, 0], [UNEQUAL, 0, NIL]];
-    assert!(!pair_with(&none, &[]));
-    assert!(pair_with(&none, &is(eight)));
-    assert!(pair_with(&none, &is(zero)));
-    assert!(!pair_with(&none, &[[EQUAL, 1, eight]]));
-    // By way of the other argument.
-    assert!(pair_with(&[[EQUAL, 0, 1], [EQUAL, 1, seven]], &is(eight)));
-    assert!(pair_with(
-        &[[EQUAL, 0, seven], [EQUAL, 1, eight]],
-        &[[EQUAL, 0, 1]]
-    ));
-    assert!(!pair_with(
-        &[[EQUAL, 0, seven], [EQUAL, 1, again]],
-        &[[EQUAL, 0, 1]]
-    ));
-    // By way of a bound variable.
-    assert!(pair_with(&[[EQUAL, 2, seven]], &[[EQUAL, eight, 2]]));
-    assert!(!pair_with(&[[EQUAL, 2, seven]], &[[EQUAL, 3, eight]]));
-    // Conditions between constants alone.
-    assert!(pair_with(&[[EQUAL, seven, eight]], &[]));
-    assert!(pair_with(&[[UNEQUAL, seven, again]], &[]));
-    assert!(pair_with(&[[UNEQUAL, zero, NIL]], &[]));
-    assert!(!pair_with(&[[UNEQUAL, seven, eight]], &[]));
-    assert!(!pair_with(&[[EQUAL, seven, again]], &[[EQUAL, zero, NIL]]));
-}
-
-#[test]
-fn bound_variables_fixed_by_constants() {
-    let (seven, eight) = (128, 129);
-    let constants = [7, 8];
-    // A bound variable of one rule has nothing to do with the other's.
-    let own = |constant| rule(0, 1, &[[EQUAL, 1, constant]], &[(0, &[1])], &[]);
-    let both = book_with(&constants, &[1], &[own(seven), own(eight)]);
-    assert_eq!(demands(&both), NOT_EXCLUSIVE);
-    // Tied to the argument it has.
-    let tied = |constant| rule(0, 1, &[[EQUAL, 1, constant], [EQUAL, 0, 1]], &[], &[]);
-    let both = book_with(&constants, &[1], &[tied(seven), tied(eight)]);
-    assert_eq!(demands(&both), PLAIN);
-    let both = book_with(&[7, 7], &[1], &[tied(seven), tied(eight)]);
-    assert_eq!(demands(&both), NOT_EXCLUSIVE);
-    // A constant that stands in a cell or call only is no condition.
-    let cell = |constant| rule(0, 0, &[], &[(0, &[constant])], &[]);
-    let both = book_with(&constants, &[1], &[cell(seven), cell(eight)]);
-    assert_eq!(demands(&both), NOT_EXCLUSIVE);
-    // Another predicate's rules may name what they like.
-    let is = |head, constant| rule(head, 0, &[[EQUAL, 0, constant]], &[], &[]);
-    let rules = [is(0, seven), is(1, seven), is(1, eight), is(0, eight)];
-    assert_eq!(demands(&book_with(&constants, &[1, 1], &rules)), PLAIN);
-    // All eight, nil, and a rule for every other number.
-    let mut rules: Vec<Vec<u8>> = (128..136).map(|constant| is(0, constant)).collect();
-    let other: Vec<[u8; 3]> = (128..136).map(|constant| [UNEQUAL, 0, constant]).collect();
-    rules.push(rule(0, 0, &other, &[], &[]));
-    let eight = [1, 2, 3, 4, 5, 6, 7, 8];
-    assert_eq!(demands(&book_with(&eight, &[1], &rules)), PLAIN);
-    rules.push(is(0, NIL));
-    assert_eq!(demands(&book_with(&eight, &[1], &rules)), NOT_EXCLUSIVE);
-    assert_eq!(
-        demands(&book_with(&[0, 2, 3, 4, 5, 6, 7, 8], &[1], &rules)),
-        NOT_EXCLUSIVE
-    );
-}
-
 #[test]
 fn rules_of_different_predicates_may_overlap() {
     let one = |head| rule(head, 0, &[[EQUAL, 0, 1]], &[], &[]);
@@ -380,15 +251,14 @@ fn no_arguments() {
     assert_eq!(demands(&book(&[0], &[never.clone(), never])), PLAIN);
 }
 
-/// Fixed variables once more: what can be reached from the head, nil or a
-/// constant, going along equalities both ways and from addresses to fields.
+/// Fixed variables once more: what can be reached from the head or nil, going
+/// along equalities both ways and from addresses to fields.
 fn fixed_by_reaching(rules: &RuleSet) -> bool {
     rules.rules.iter().all(|rule| {
-        // One place for all numbers, since each is a start.
-        let number = rule.variables;
+        let nil = rule.variables;
         let place = |term: Term| match term {
-            Term::Number(_) => number,
             Term::Variable(variable) => variable,
+            _ => nil,
         };
         let mut reach = [[false; 9]; 9];
         for pure in rule.pure.iter().filter(|pure| pure.kind == Kind::Equal) {
@@ -401,74 +271,80 @@ fn fixed_by_reaching(rules: &RuleSet) -> bool {
                 reach[cell.address][place(field)] = true;
             }
         }
-        for middle in 0..=number {
-            for from in 0..=number {
-                for to in 0..=number {
+        for middle in 0..=nil {
+            for from in 0..=nil {
+                for to in 0..=nil {
                     reach[from][to] |= reach[from][middle] && reach[middle][to];
                 }
             }
         }
         let arity = rules.arities[rule.head];
-        let starts = || (0..arity).chain([number]);
-        (arity..number).all(|variable| starts().any(|from| reach[from][variable]))
+        (arity..nil).all(|variable| (0..arity).chain([nil]).any(|from| reach[from][variable]))
     })
 }
 
-/// Exclusive rules once more: both rules' equalities make classes of terms, and
-/// there are whole numbers enough to keep all classes apart. Nil and constants
-/// of different values are apart in any case.
-fn exclusive_by_classes(rules: &RuleSet) -> bool {
-    let mut numbers = [&[0], &rules.constants[..]].concat();
-    numbers.sort();
-    numbers.dedup();
-    let mut apart = Vec::new();
-    for second in 0..numbers.len() {
-        for first in 0..second {
-            apart.push((Kind::Unequal, first, second));
-        }
+/// Exclusive rules once more: for each rule all arguments that meet its
+/// conditions, up to a renaming. The numbers are 0 for nil, then new ones in the
+/// order of their first use, so two rules with arguments in common show the same
+/// ones. There are no constants in these books.
+fn exclusive_by_renaming(rules: &RuleSet) -> bool {
+    assert!(rules.constants.is_empty());
+    let met = |rule: &Rule| {
+        let mut met = BTreeSet::new();
+        let arity = rules.arities[rule.head];
+        each_way(rule, arity, &mut Vec::new(), &mut |arguments| {
+            let all = rule.variables;
+            let mut some = false;
+            each_way(rule, all, &mut arguments.to_vec(), &mut |_| {
+                some = true;
+                true
+            });
+            if some {
+                met.insert(arguments.to_vec());
+            }
+            false
+        });
+        met
+    };
+    let met: Vec<BTreeSet<Vec<u64>>> = rules.rules.iter().map(met).collect();
+    let head = |rule: usize| rules.rules[rule].head;
+    (0..met.len()).all(|second| {
+        (0..second)
+            .filter(|&first| head(first) == head(second))
+            .all(|first| met[first].is_disjoint(&met[second]))
+    })
+}
+
+/// Every list of `length` numbers that starts with these and contradicts no
+/// condition, until `enough`.
+fn each_way(
+    rule: &Rule,
+    length: usize,
+    numbers: &mut Vec<u64>,
+    enough: &mut dyn FnMut(&[u64]) -> bool,
+) -> bool {
+    let number = |term: Term| match term {
+        Term::Variable(variable) => numbers.get(variable).copied(),
+        _ => term.number(),
+    };
+    let contradicted = rule.pure.iter().any(|pure| {
+        let (left, right) = (number(pure.left), number(pure.right));
+        let known = left.is_some() && right.is_some();
+        known && (left == right) != (pure.kind == Kind::Equal)
+    });
+    if contradicted {
+        return false;
     }
-    for (number, second) in rules.rules.iter().enumerate() {
-        let arity = rules.arities[second.head];
-        for first in &rules.rules[..number] {
-            if first.head != second.head {
-                continue;
-            }
-            // Numbers, then the first rule's variables, then what the second
-            // binds.
-            let place = |other: bool, term: Term| match term {
-                Term::Number(number) => numbers.binary_search(&number).unwrap(),
-                Term::Variable(variable) if other && variable >= arity => {
-                    numbers.len() + first.variables + variable - arity
-                }
-                Term::Variable(variable) => numbers.len() + variable,
-            };
-            let mut pairs = apart.clone();
-            for (other, rule) in [(false, first), (true, second)] {
-                for pure in &rule.pure {
-                    let (left, right) = (place(other, pure.left), place(other, pure.right));
-                    pairs.push((pure.kind, left, right));
-                }
-            }
-            let mut class: Vec<usize> = (0..numbers.len() + 16).collect();
-            for &(kind, left, right) in &pairs {
-                if kind == Kind::Equal {
-                    let (from, to) = (class[left], class[right]);
-                    for member in &mut class {
-                        if *member == from {
-                            *member = to;
-                        }
-                    }
-                }
-            }
-            let clash = |&(kind, left, right): &(Kind, usize, usize)| {
-                kind == Kind::Unequal && class[left] == class[right]
-            };
-            if !pairs.iter().any(clash) {
-                return false;
-            }
-        }
+    if numbers.len() == length {
+        return enough(numbers);
     }
-    true
+    let new = numbers.iter().max().map_or(1, |highest| highest + 1);
+    (0..=new).any(|number| {
+        numbers.push(number);
+        let ended = each_way(rule, length, numbers, enough);
+        numbers.pop();
+        ended
+    })
 }
 
 #[test]
@@ -483,11 +359,11 @@ fn each_demand_against_other_ways() {
         };
         let rules = read(&book);
         let [consuming, fixed, exclusive] = demands(&book);
-        assert_eq!(consuming, read(&without_calls_alone(&book)) == rules);
+        assert_eq!(consuming, without_calls_alone(&book) == book);
         assert_eq!(fixed, fixed_by_reaching(&rules), "seed {seed}");
-        assert_eq!(exclusive, exclusive_by_classes(&rules), "seed {seed}");
+        assert_eq!(exclusive, exclusive_by_renaming(&rules), "seed {seed}");
         let widest = rules.rules.iter().map(|rule| rule.variables).max();
-        if seed < 8000 && widest <= Some(3) && rules.constants.len() <= 2 {
+        if seed < 8000 && widest <= Some(3) {
             assert_eq!(exclusive, naive::exclusive(&rules), "seed {seed}");
             tried += 1;
         }

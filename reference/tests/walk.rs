@@ -25,15 +25,10 @@ fn decided(book: &[u8], snapshot: &[u8], question: &[u8]) -> u32 {
 
 #[test]
 fn the_engines_refusals() {
-    let segment = [
+    let good = [
         plain_segment(),
         snapshot(&[(10, &[20])]),
         question(0, &[10, 20]),
-    ];
-    let typed = [
-        plain_typed(),
-        snapshot(&[(10, &[7, 0])]),
-        question(0, &[10]),
     ];
     let ask = |parts: &[Vec<u8>; 3]| {
         let [book, snapshot, question] = parts;
@@ -49,33 +44,31 @@ fn the_engines_refusals() {
         refusal: 0,
         verdict: 1,
     };
-    for good in [segment, typed] {
-        assert_eq!(ask(&good), fits);
-        let mut met = [0; 10];
-        for part in 0..3 {
-            for at in 0..=good[part].len() {
-                // Cut there, one byte more, and another byte instead.
-                let mut cut = good.clone();
-                cut[part].truncate(at);
-                let mut more = good.clone();
-                more[part].insert(at, 0);
-                let mut tried = vec![cut, more];
-                if at < good[part].len() {
-                    for byte in [0, 1, 2, 9, 17, 128, 129, 255] {
-                        let mut other = good.clone();
-                        other[part][at] = byte;
-                        tried.push(other);
-                    }
-                }
-                for parts in tried {
-                    let reply = ask(&parts);
-                    assert!(reply.refusal == 0 || reply.verdict == 0);
-                    met[reply.refusal as usize] += 1;
+    assert_eq!(ask(&good), fits);
+    let mut met = [0; 10];
+    for part in 0..3 {
+        for at in 0..=good[part].len() {
+            // Cut there, one byte more, and another byte instead.
+            let mut cut = good.clone();
+            cut[part].truncate(at);
+            let mut more = good.clone();
+            more[part].insert(at, 0);
+            let mut tried = vec![cut, more];
+            if at < good[part].len() {
+                for byte in [0, 1, 2, 9, 17, 255] {
+                    let mut other = good.clone();
+                    other[part][at] = byte;
+                    tried.push(other);
                 }
             }
+            for parts in tried {
+                let reply = ask(&parts);
+                assert!(reply.refusal == 0 || reply.verdict == 0);
+                met[reply.refusal as usize] += 1;
+            }
         }
-        assert!(met.iter().all(|&times| times > 0), "{met:?}");
     }
+    assert!(met.iter().all(|&times| times > 0), "{met:?}");
 }
 
 /// Book, snapshot, question's predicate and values, and what is expected.
@@ -161,91 +154,6 @@ fn the_papers_pools() {
             decided(&book, pool, &question),
         ];
         assert_eq!(verdicts, expected, "row {row}");
-    }
-}
-
-#[test]
-fn plain_shapes_with_constants() {
-    let none = snapshot(&[]);
-    let typed = snapshot(&[(10, &[7, 20]), (20, &[7, 0])]);
-    let other = snapshot(&[(10, &[7, 20]), (20, &[8, 0])]);
-    let turned = snapshot(&[(10, &[20, 7]), (20, &[0, 7])]);
-    let ring = snapshot(&[(10, &[7, 20]), (20, &[7, 10])]);
-    // The address is the type code as well.
-    let own = snapshot(&[(7, &[7, 0])]);
-    let kinds = snapshot(&[(10, &[9, 20, 9]), (20, &[9, 30, 7]), (30, &[7])]);
-    let wrong = snapshot(&[(10, &[9, 20, 9]), (20, &[9, 30, 9]), (30, &[7])]);
-    // P(a) if a:(c) and c is 7; if a is 7 and empty; nothing for other numbers.
-    let code = rule(
-        0,
-        1,
-        &[[UNEQUAL, 0, 128], [EQUAL, 1, 129]],
-        &[(0, &[1])],
-        &[],
-    );
-    let end = rule(0, 0, &[[EQUAL, 128, 0]], &[], &[]);
-    let again = book_with(&[7, 7], &[1], &[code, end]);
-    assert_eq!(api::plain_book(&again), Ok(true));
-    let one = snapshot(&[(10, &[7])]);
-    let zero = snapshot(&[(10, &[0])]);
-    let at = snapshot(&[(7, &[7])]);
-    let rows: [Row<u32>; 21] = [
-        (plain_typed(), &none, 0, &[0], 1),
-        (plain_typed(), &none, 0, &[7], 0),
-        (plain_typed(), &typed, 0, &[10], 1),
-        (plain_typed(), &typed, 0, &[20], 0),
-        (plain_typed(), &typed, 0, &[7], 0),
-        (plain_typed(), &other, 0, &[10], 0),
-        (plain_typed(), &turned, 0, &[10], 0),
-        (plain_typed(), &ring, 0, &[10], 0),
-        (plain_typed(), &own, 0, &[7], 1),
-        (plain_kinds(), &kinds, 0, &[10, 9], 1),
-        (plain_kinds(), &kinds, 0, &[10, 7], 0),
-        (plain_kinds(), &kinds, 0, &[10, 8], 0),
-        (plain_kinds(), &kinds, 0, &[20, 9], 0),
-        (plain_kinds(), &wrong, 0, &[10, 9], 0),
-        (plain_kinds(), &none, 0, &[0, 7], 0),
-        (again.clone(), &none, 0, &[7], 1),
-        (again.clone(), &none, 0, &[8], 0),
-        (again.clone(), &one, 0, &[10], 1),
-        (again.clone(), &one, 0, &[7], 0),
-        (again.clone(), &zero, 0, &[10], 0),
-        (again, &at, 0, &[7], 0),
-    ];
-    for (row, (book, pool, predicate, values, expected)) in rows.into_iter().enumerate() {
-        let question = question(predicate, values);
-        assert_eq!(api::plain_book(&book), Ok(true));
-        assert_eq!(walked(&book, pool, &question), expected, "row {row}");
-        assert_eq!(decided(&book, pool, &question), expected, "row {row}");
-    }
-}
-
-/// An address and what follows from it are known by a constant alone; and in
-/// a book that is not plain, a number other than the constants is found.
-#[test]
-fn from_a_constant_on() {
-    // P() if a = 7, a:(b), b:(8).
-    let row = rule(0, 2, &[[EQUAL, 0, 128]], &[(1, &[129]), (0, &[1])], &[]);
-    let fixed = book_with(&[7, 8], &[0], &[row]);
-    assert_eq!(api::plain_book(&fixed), Ok(true));
-    let asked = question(0, &[]);
-    for (records, expected) in [([7, 9, 9, 8], 1), ([7, 9, 9, 7], 0), ([6, 9, 9, 8], 0)] {
-        let [first, next, second, code] = records;
-        let pool = snapshot(&[(first, &[next]), (second, &[code])]);
-        assert_eq!(walked(&fixed, &pool, &asked), expected);
-        assert_eq!(decided(&fixed, &pool, &asked), expected);
-    }
-    // P() if a is none of 0, 1, 2 and 3, and Q(a) for the record at 7.
-    let mut pure = vec![[UNEQUAL, 0, NIL], [EQUAL, 1, 131]];
-    pure.extend((128..131).map(|constant| [UNEQUAL, 0, constant]));
-    let some = rule(0, 2, &pure, &[(1, &[])], &[(1, &[0])]);
-    let any = rule(1, 0, &[[UNEQUAL, 0, 131]], &[], &[]);
-    let open = book_with(&[1, 2, 3, 7], &[0, 1], &[some, any]);
-    assert_eq!(api::plain_book(&open), Ok(false));
-    for (address, expected) in [(7, 1), (8, 0)] {
-        let pool = snapshot(&[(address, &[])]);
-        assert_eq!(walked(&open, &pool, &asked), expected);
-        assert_eq!(decided(&open, &pool, &asked), expected);
     }
 }
 

@@ -74,7 +74,10 @@ pub fn known_books() -> Vec<Vec<u8>> {
 }
 
 pub const NIL: u8 = 255;
-pub const FIRST_CONSTANT: u8 = 128;
+/// The first three constants.
+pub const C: u8 = 128;
+pub const D: u8 = 129;
+pub const E: u8 = 130;
 pub const EQUAL: u8 = 0;
 pub const UNEQUAL: u8 = 1;
 
@@ -102,34 +105,35 @@ pub fn rule(
     bytes
 }
 
-/// A book without constants.
 pub fn book(arities: &[u8], rules: &[Vec<u8>]) -> Vec<u8> {
-    book_with(&[], arities, rules)
+    book_with(arities, &[], rules)
 }
 
-pub fn book_with(constants: &[u32], arities: &[u8], rules: &[Vec<u8>]) -> Vec<u8> {
+/// A book with constants.
+pub fn book_with(arities: &[u8], constants: &[u32], rules: &[Vec<u8>]) -> Vec<u8> {
     let mut bytes = vec![arities.len() as u8];
     bytes.extend(arities);
     bytes.push(constants.len() as u8);
-    bytes.extend(constants.iter().flat_map(|value| value.to_le_bytes()));
+    for constant in constants {
+        bytes.extend(constant.to_le_bytes());
+    }
     bytes.push(rules.len() as u8);
     bytes.extend(rules.iter().flatten());
     bytes
 }
 
-/// A rule set's bytes. Numbers are written as the last constant with that value,
-/// and 0 as nil only if no constant is 0.
+/// A rule set's bytes; of equal constants, rules name the first one.
 pub fn written(rules: &RuleSet) -> Vec<u8> {
-    let constants = &rules.constants;
     let term = |term: &Term| match term {
-        Term::Number(number) => match constants.iter().rposition(|value| value == number) {
-            Some(index) => FIRST_CONSTANT + index as u8,
-            None => NIL,
-        },
+        Term::Nil => NIL,
+        Term::Constant(value) => {
+            let place = rules.constants.iter().position(|other| other == value);
+            C + place.expect("constant is listed") as u8
+        }
         Term::Variable(variable) => *variable as u8,
     };
     let arities: Vec<u8> = rules.arities.iter().map(|&arity| arity as u8).collect();
-    let mut bytes = book_with(constants, &arities, &[]);
+    let mut bytes = book_with(&arities, &rules.constants, &[]);
     *bytes.last_mut().unwrap() = rules.rules.len() as u8;
     for rule in &rules.rules {
         let bound = rule.variables - rules.arities[rule.head];
@@ -254,33 +258,6 @@ pub fn plain_lists() -> Vec<u8> {
     )
 }
 
-/// A list to nil whose records have type code 7 as their first field.
-pub fn plain_typed() -> Vec<u8> {
-    let code = FIRST_CONSTANT;
-    book_with(
-        &[7],
-        &[1],
-        &[
-            rule(0, 0, &[[EQUAL, 0, NIL]], &[], &[]),
-            rule(0, 1, &[[UNEQUAL, 0, NIL]], &[(0, &[code, 1])], &[(0, &[1])]),
-        ],
-    )
-}
-
-/// A list whose records have a type code: 9 with the next record and its code
-/// after it, 7 with nothing after it. The second argument is the first code.
-pub fn plain_kinds() -> Vec<u8> {
-    let (end, on) = (FIRST_CONSTANT, FIRST_CONSTANT + 1);
-    book_with(
-        &[7, 9],
-        &[2],
-        &[
-            rule(0, 0, &[[EQUAL, 1, end]], &[(0, &[end])], &[]),
-            rule(0, 2, &[[EQUAL, on, 1]], &[(0, &[1, 2, 3])], &[(0, &[2, 3])]),
-        ],
-    )
-}
-
 pub fn plain_books() -> Vec<Vec<u8>> {
     vec![
         plain_segment(),
@@ -289,9 +266,97 @@ pub fn plain_books() -> Vec<Vec<u8>> {
         plain_double(),
         plain_parents(),
         plain_lists(),
-        plain_typed(),
-        plain_kinds(),
     ]
+}
+
+/// A list to nil whose records hold type code 7 first.
+pub fn typed_list() -> Vec<u8> {
+    book_with(
+        &[1],
+        &[7],
+        &[
+            rule(0, 0, &[[EQUAL, 0, NIL]], &[], &[]),
+            rule(0, 1, &[[UNEQUAL, 0, NIL]], &[(0, &[C, 1])], &[(0, &[1])]),
+        ],
+    )
+}
+
+/// A tree in which whoever points to a record also holds its type: 1 for a
+/// leaf, 3 for a record with two below. The types keep the rules apart.
+pub fn typed_tree() -> Vec<u8> {
+    book_with(
+        &[2],
+        &[1, 3],
+        &[
+            rule(0, 1, &[[EQUAL, 1, C]], &[(0, &[2])], &[]),
+            rule(
+                0,
+                4,
+                &[[EQUAL, D, 1]],
+                &[(0, &[2, 3, 4, 5])],
+                &[(0, &[2, 3]), (0, &[4, 5])],
+            ),
+        ],
+    )
+}
+
+/// Segments of records of either type, 7 or 9, with a segment's type given.
+pub fn typed_segment() -> Vec<u8> {
+    book_with(
+        &[3],
+        &[7, 9, 0, 7],
+        &[
+            rule(0, 0, &[[EQUAL, 0, 1]], &[], &[]),
+            rule(
+                0,
+                1,
+                &[[UNEQUAL, 0, 1], [EQUAL, 2, C]],
+                &[(0, &[131, 3])],
+                &[(0, &[3, 1, 131])],
+            ),
+            rule(
+                0,
+                1,
+                &[[UNEQUAL, 0, 1], [EQUAL, 2, D]],
+                &[(0, &[D, 3])],
+                &[(0, &[3, 1, 2])],
+            ),
+        ],
+    )
+}
+
+pub fn plain_typed_books() -> Vec<Vec<u8>> {
+    vec![typed_list(), typed_tree(), typed_segment()]
+}
+
+/// Books with constants that have many fits.
+pub fn typed_books() -> Vec<Vec<u8>> {
+    // A segment whose records may be of either type; the types are arguments
+    // of a predicate that holds for these two only.
+    let mixed = book_with(
+        &[2, 1],
+        &[4, 7],
+        &[
+            rule(0, 0, &[[EQUAL, 0, 1]], &[], &[]),
+            rule(0, 2, &[], &[(0, &[2, 3])], &[(1, &[2]), (0, &[3, 1])]),
+            rule(1, 0, &[[EQUAL, 0, C]], &[], &[]),
+            rule(1, 0, &[[EQUAL, D, 0]], &[], &[]),
+        ],
+    );
+    // Any number but the constants, and records that hold such a number.
+    let others = book_with(
+        &[1, 0],
+        &[1, 3, 3, 0],
+        &[
+            rule(0, 0, &[[UNEQUAL, 0, C], [UNEQUAL, D, 0]], &[], &[]),
+            rule(1, 0, &[], &[], &[]),
+            rule(1, 2, &[], &[(0, &[1])], &[(0, &[1]), (1, &[])]),
+            rule(1, 1, &[[EQUAL, 0, D]], &[(0, &[131])], &[(0, &[131])]),
+        ],
+    );
+    let mut books = plain_typed_books();
+    books.extend([mixed, others]);
+    books
 }
 
 pub fn snapshot(records: &[(u32, &[u32])]) -> Vec<u8> {
@@ -340,11 +405,18 @@ const NUMBERS: [u32; 12] = [0, 1, 3, 4, 7, 9, 12, 20, 21, 30, 40, 50];
 type Step = Option<(BTreeMap<u32, Vec<u32>>, Vec<(usize, Vec<u32>)>)>;
 
 /// A small generator of numbers, the same in every run.
-pub struct Dice(u64);
+pub struct Dice {
+    state: u64,
+    /// For the books to be made; without any, numbers come as they always did.
+    constants: Vec<u32>,
+}
 
 impl Dice {
     pub fn new(seed: u64) -> Dice {
-        let mut dice = Dice(seed.wrapping_mul(0x9E37_79B9_7F4A_7C15) | 1);
+        let mut dice = Dice {
+            state: seed.wrapping_mul(0x9E37_79B9_7F4A_7C15) | 1,
+            constants: Vec::new(),
+        };
         // The first few numbers of near seeds are too much alike.
         for _ in 0..20 {
             dice.below(2);
@@ -352,12 +424,22 @@ impl Dice {
         dice
     }
 
+    /// With up to that many constants, among them often 0 and equal ones.
+    pub fn with_constants(seed: u64, most: usize) -> Dice {
+        let mut dice = Dice::new(seed);
+        for _ in 0..dice.between(1, most) {
+            let constant = dice.pick(&[0, 0, 1, 3, 3, 4, 7, 9, 20, u32::MAX]);
+            dice.constants.push(constant);
+        }
+        dice
+    }
+
     /// A number from 0 up to, not including, `end`.
     pub fn below(&mut self, end: usize) -> usize {
-        self.0 ^= self.0 << 13;
-        self.0 ^= self.0 >> 7;
-        self.0 ^= self.0 << 17;
-        (self.0 >> 33) as usize % end
+        self.state ^= self.state << 13;
+        self.state ^= self.state >> 7;
+        self.state ^= self.state << 17;
+        (self.state >> 33) as usize % end
     }
 
     pub fn between(&mut self, low: usize, high: usize) -> usize {
@@ -368,28 +450,38 @@ impl Dice {
         from[self.below(from.len())]
     }
 
-    fn term(&mut self, variables: usize, constants: usize) -> u8 {
-        if constants > 0 && self.below(4) == 0 {
-            FIRST_CONSTANT + self.below(constants) as u8
-        } else if variables == 0 || self.below(6) == 0 {
-            NIL
+    /// One of these, or now and then a constant.
+    fn number(&mut self, from: &[u32]) -> u32 {
+        if !self.constants.is_empty() && self.below(3) == 0 {
+            let constants = self.constants.clone();
+            return self.pick(&constants);
+        }
+        self.pick(from)
+    }
+
+    fn constant_term(&mut self) -> u8 {
+        C + self.below(self.constants.len()) as u8
+    }
+
+    fn term(&mut self, variables: usize) -> u8 {
+        if !self.constants.is_empty() && self.below(4) == 0 {
+            return self.constant_term();
+        }
+        if variables == 0 || self.below(6) == 0 {
+            255
         } else {
             self.below(variables) as u8
         }
     }
 
-    /// Every other time none. They are mostly numbers that also stand in pools,
-    /// and so few of these that some are equal or 0.
-    fn constants(&mut self, most: usize) -> Vec<u32> {
-        let count = self.below(2) * self.between(1, most);
-        let values = [0, 1, 2, 3, 4, 7, 7, 9, u32::MAX];
-        (0..count).map(|_| self.pick(&values)).collect()
-    }
-
     /// A book that is read without fault, with few variables in each rule.
     /// Now and then it is one of the known ones instead.
     pub fn book(&mut self, most_variables: usize) -> Vec<u8> {
-        let known = known_books();
+        let known = if self.constants.is_empty() {
+            known_books()
+        } else {
+            typed_books()
+        };
         if self.below(4) == 0 {
             return known[self.below(known.len())].clone();
         }
@@ -397,10 +489,8 @@ impl Dice {
         let arities: Vec<usize> = (0..predicates)
             .map(|_| self.pick(&[0, 1, 1, 2, 2, 2, 3]).min(most_variables))
             .collect();
-        let constants = self.constants(3);
-        let heads: Vec<u8> = arities.iter().map(|&arity| arity as u8).collect();
-        let mut book = book_with(&constants, &heads, &[]);
-        let constants = constants.len();
+        let numbers: Vec<u8> = arities.iter().map(|&arity| arity as u8).collect();
+        let mut book = book_with(&numbers, &self.constants, &[]);
         let rules = self.between(predicates, predicates + 3);
         *book.last_mut().unwrap() = rules as u8;
         for rule in 0..rules {
@@ -415,8 +505,8 @@ impl Dice {
             for _ in 0..pure {
                 let unequal = self.below(if start { 4 } else { 2 }) == 1;
                 book.push(unequal as u8);
-                book.push(self.term(variables, constants));
-                book.push(self.term(variables, constants));
+                book.push(self.term(variables));
+                book.push(self.term(variables));
             }
             let cells = if variables == 0 {
                 0
@@ -431,7 +521,7 @@ impl Dice {
                 let fields = self.pick(&[0, 1, 1, 1, 2]);
                 book.push(fields);
                 for _ in 0..fields {
-                    book.push(self.term(variables, constants));
+                    book.push(self.term(variables));
                 }
             }
             let calls = if start { 0 } else { self.pick(&[1, 1, 2, 3]) };
@@ -440,37 +530,44 @@ impl Dice {
                 let predicate = self.below(predicates);
                 book.push(predicate as u8);
                 for _ in 0..arities[predicate] {
-                    book.push(self.term(variables, constants));
+                    book.push(self.term(variables));
                 }
             }
         }
         book
     }
 
+    pub fn constants(&self) -> Vec<u32> {
+        self.constants.clone()
+    }
+
+    pub fn condition(&mut self, variables: usize) -> [u8; 3] {
+        let kind = self.pick(&[EQUAL, EQUAL, UNEQUAL]);
+        [kind, self.term(variables), self.term(variables)]
+    }
+
     /// A book of few rules with many conditions and variables, and nothing else.
     pub fn conditions(&mut self, most_arguments: usize, most_variables: usize) -> Vec<u8> {
         let arity = self.between(0, most_arguments);
-        let values = self.constants(8);
-        let constants = values.len();
         let mut rules = Vec::new();
         for _ in 0..self.between(2, 3) {
             let variables = self.between(arity, most_variables);
-            let mut pure = Vec::new();
-            for _ in 0..self.between(0, 8) {
-                let kind = self.pick(&[EQUAL, EQUAL, UNEQUAL]);
-                let left = self.term(variables, constants);
-                pure.push([kind, left, self.term(variables, constants)]);
-            }
+            let count = self.between(0, 8);
+            let pure: Vec<[u8; 3]> = (0..count).map(|_| self.condition(variables)).collect();
             rules.push(rule(0, (variables - arity) as u8, &pure, &[], &[]));
         }
-        book_with(&values, &[arity as u8], &rules)
+        book_with(&[arity as u8], &self.constants, &rules)
     }
 
     /// A book made to be plain: the rules of a predicate split its arguments
     /// among them, bound variables come from fields or equalities, and calls
     /// have a cell before them. In about every other book something is wrong.
     pub fn split_book(&mut self) -> Vec<u8> {
-        let known = plain_books();
+        let known = if self.constants.is_empty() {
+            plain_books()
+        } else {
+            plain_typed_books()
+        };
         if self.below(8) == 0 {
             return known[self.below(known.len())].clone();
         }
@@ -478,12 +575,10 @@ impl Dice {
         let arities: Vec<u8> = (0..predicates)
             .map(|_| self.pick(&[0, 1, 1, 1, 2, 2, 2, 3]))
             .collect();
-        let values = self.constants(3);
-        let constants = values.len();
         let mut rules = Vec::new();
         for head in 0..predicates {
-            for split in self.splits(arities[head], constants) {
-                rules.push(self.split_rule(&arities, constants, head, split));
+            for split in self.splits(arities[head]) {
+                rules.push(self.split_rule(&arities, head, split));
             }
         }
         let fault = self.below(20);
@@ -491,8 +586,8 @@ impl Dice {
             // The same rule twice.
             rules.push(rules[self.below(rules.len())].clone());
         }
-        let mut set =
-            formats::read_rule_set(&book_with(&values, &arities, &rules)).expect("no fault");
+        let book = book_with(&arities, &self.constants, &rules);
+        let mut set = formats::read_rule_set(&book).expect("no fault");
         let rule = self.below(set.rules.len());
         let rule = &mut set.rules[rule];
         match fault {
@@ -513,22 +608,27 @@ impl Dice {
         written(&set)
     }
 
-    /// Conditions on the arguments of which no two can be met together, if the
-    /// constants are different.
-    fn splits(&mut self, arity: u8, constants: usize) -> Vec<Vec<[u8; 3]>> {
+    /// Conditions on the arguments of which no two can be met together.
+    fn splits(&mut self, arity: u8) -> Vec<Vec<[u8; 3]>> {
         if arity == 0 {
             return vec![vec![]];
         }
-        if constants > 0 && self.below(3) == 0 {
-            // One rule for each constant, and nil for the last.
-            let code = self.below(arity as usize) as u8;
-            let constants = FIRST_CONSTANT..FIRST_CONSTANT + constants as u8;
-            let values = constants.chain([NIL]);
-            return values.map(|value| vec![[EQUAL, code, value]]).collect();
+        if !self.constants.is_empty() && self.below(2) == 0 {
+            // By constants; if these are equal, the first two are not apart.
+            let (a, c, d) = (
+                self.below(arity as usize) as u8,
+                self.constant_term(),
+                self.constant_term(),
+            );
+            let mut splits = vec![vec![[EQUAL, a, c]], vec![[EQUAL, d, a]]];
+            if self.below(2) == 0 {
+                splits.push(vec![[UNEQUAL, c, a], [UNEQUAL, a, d]]);
+            }
+            return splits;
         }
         let mut pair = || {
             let left = self.below(arity as usize) as u8;
-            let right = self.term(arity as usize, constants);
+            let right = self.term(arity as usize);
             [left, if right == left { NIL } else { right }]
         };
         let ([a, b], [c, d]) = (pair(), pair());
@@ -541,17 +641,11 @@ impl Dice {
         }
     }
 
-    fn split_rule(
-        &mut self,
-        arities: &[u8],
-        constants: usize,
-        head: usize,
-        mut pure: Vec<[u8; 3]>,
-    ) -> Vec<u8> {
+    fn split_rule(&mut self, arities: &[u8], head: usize, mut pure: Vec<[u8; 3]>) -> Vec<u8> {
         let arity = arities[head] as usize;
         let mut variables = arity;
         if self.below(5) == 0 {
-            pure.push([EQUAL, variables as u8, self.term(variables, constants)]);
+            pure.push([EQUAL, variables as u8, self.term(variables)]);
             variables += 1;
         }
         let first = pure.first().is_none_or(|pure| pure[0] == EQUAL);
@@ -565,17 +659,13 @@ impl Dice {
                     fields.push(variables as u8);
                     variables += 1;
                 } else {
-                    fields.push(self.term(variables, constants));
+                    fields.push(self.term(variables));
                 }
             }
             cells.push((address, fields));
         }
         if variables > arity && self.below(4) == 0 {
-            pure.push([
-                UNEQUAL,
-                variables as u8 - 1,
-                self.term(variables, constants),
-            ]);
+            pure.push([UNEQUAL, variables as u8 - 1, self.term(variables)]);
         }
         let mut calls: Vec<(u8, Vec<u8>)> = Vec::new();
         let most = if cells.is_empty() { 0 } else { 3 };
@@ -583,7 +673,7 @@ impl Dice {
             let predicate = self.below(arities.len());
             let arguments = (0..arities[predicate]).map(|_| match self.below(2) {
                 0 if variables > arity => self.between(arity, variables - 1) as u8,
-                _ => self.term(variables, constants),
+                _ => self.term(variables),
             });
             calls.push((predicate as u8, arguments.collect()));
         }
@@ -598,10 +688,9 @@ impl Dice {
     /// changed afterwards.
     pub fn grown(&mut self, book: &[u8], most: usize) -> (Vec<u8>, Vec<u8>) {
         let rules = formats::read_rule_set(book).expect("no fault");
-        let numbers = [&NUMBERS[..], &rules.constants[..]].concat();
         let predicate = self.below(rules.arities.len());
         let mut values: Vec<u32> = (0..rules.arities[predicate])
-            .map(|_| self.pick(&numbers))
+            .map(|_| self.number(&NUMBERS))
             .collect();
         let mut records: BTreeMap<u32, Vec<u32>> = BTreeMap::new();
         let mut goals = vec![(predicate, values.clone())];
@@ -613,7 +702,7 @@ impl Dice {
             busy.extend(goals.iter().flat_map(|(_, arguments)| arguments));
             let rule = &rules.rules[self.below(rules.rules.len().max(1))..];
             let rule = rule.first().filter(|rule| rule.head == predicate);
-            let step = rule.and_then(|rule| self.step(rule, &arguments, &numbers, busy, most));
+            let step = rule.and_then(|rule| self.step(rule, &arguments, busy, most));
             match step {
                 Some((more, below))
                     if records.len() + more.len() <= most
@@ -632,12 +721,12 @@ impl Dice {
                 let fields = records.get_mut(&address).unwrap();
                 if !fields.is_empty() {
                     let field = self.below(fields.len());
-                    fields[field] = self.pick(&NUMBERS);
+                    fields[field] = self.number(&NUMBERS);
                 }
             }
             (2, _) if !values.is_empty() => {
                 let value = self.below(values.len());
-                values[value] = self.pick(&NUMBERS);
+                values[value] = self.number(&NUMBERS);
             }
             (3, _) if records.len() < most => {
                 let address = self.pick(&NUMBERS[1..]);
@@ -655,13 +744,12 @@ impl Dice {
         &mut self,
         rule: &Rule,
         arguments: &[u32],
-        numbers: &[u32],
         mut busy: BTreeSet<u32>,
         most: usize,
     ) -> Step {
         let mut values = arguments.to_vec();
         while values.len() < rule.variables {
-            let mut value = self.pick(numbers);
+            let mut value = self.number(&NUMBERS);
             if self.below(8) > 0 && (busy.len() > most || busy.contains(&value)) {
                 value = 0;
             }
@@ -669,7 +757,8 @@ impl Dice {
             values.push(value);
         }
         let value = |values: &[u32], term: Term| match term {
-            Term::Number(number) => number,
+            Term::Nil => 0,
+            Term::Constant(value) => value,
             Term::Variable(variable) => values[variable],
         };
         // Help bound variables to the values they must have.
@@ -710,7 +799,7 @@ impl Dice {
         for address in [1, 3, 4, 7, 9] {
             if records.len() < most && self.below(2) == 0 {
                 let fields = self.pick(&[0, 1, 1, 1, 2]);
-                let fields = (0..fields).map(|_| self.pick(&[0, 1, 3, 4, 7]));
+                let fields = (0..fields).map(|_| self.number(&[0, 1, 3, 4, 7]));
                 records.push((address, fields.collect()));
             }
         }
@@ -725,7 +814,7 @@ impl Dice {
         let rules = formats::read_rule_set(book).expect("no fault");
         let predicate = self.below(rules.arities.len());
         let values: Vec<u32> = (0..rules.arities[predicate])
-            .map(|_| self.pick(&[0, 1, 3, 4, 7]))
+            .map(|_| self.number(&[0, 1, 3, 4, 7]))
             .collect();
         question(predicate as u8, &values)
     }
