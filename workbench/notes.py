@@ -9,7 +9,7 @@ from workbench.wording import nearest
 def notes(book: Book, source: str) -> list[str]:
     """A line for each such name of a book that is text."""
     return [
-        f"{source}:{rule.line}: note: {shorten(name)} stands once in this case and may be any value: {_instead(name, rule)}"
+        f"{source}:{rule.line}: note: {shorten(name)} stands once in this case, so any value that meets it will do: {_instead(name, rule)}"
         for rule in book.rules
         if rule.line
         for name in _loose(rule, book.predicates[rule.predicate].arguments)

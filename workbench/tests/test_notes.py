@@ -11,11 +11,11 @@ def noted(case: str) -> list[str]:
 
 class Notes(unittest.TestCase):
     def test_a_misspelt_name(self):
-        expected = "f:3: note: next stands once in this case and may be any value: did you mean nxt? Else write exists next: in front if it is meant"
+        expected = "f:3: note: next stands once in this case, so any value that meets it will do: did you mean nxt? Else write exists next: in front if it is meant"
         self.assertEqual(noted("a -> nxt * q(next, b) => q(a, b)"), [expected])
 
     def test_a_name_that_is_like_no_other(self):
-        expected = "f:3: note: other stands once in this case and may be any value: write exists other: in front if it is meant"
+        expected = "f:3: note: other stands once in this case, so any value that meets it will do: write exists other: in front if it is meant"
         self.assertEqual(noted("a != other => q(a, b)"), [expected])
 
     def test_each_name_once(self):

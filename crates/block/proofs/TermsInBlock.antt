@@ -1,4 +1,5 @@
--- Terms of the block under the values σ of a rule's variables, whatever the numbers of fixed values stand for: one term, terms in a row, a record that an atom asks for, a pure condition.
+-- Terms of the block under the values σ of a rule's variables, whatever the numbers of fixed values stand for: one term, terms in a row, a
+-- record that an atom asks for, a pure condition.
 use mathlib.Core.{Bool.Bool, Bool.not, Path._≡_, Path.refl, Path.sym, Path.ap, Path.ap₂, Path._∙_, List.List, List.map, Logic._≢_, Logic._↔_}
 use Prim.Native.Nat.{ℕ, _+_, _-_, _≤_, _<_}
 use native.Mathlib.Omega.{arith}

@@ -1,8 +1,12 @@
 // Heap and query as they are read, in values, by names; and the entries of the heap in positions, to be written. A record is named by its
 // number.
+use super::CONSTANTS;
+use super::FIRST_GIVEN;
 use super::HeapBlock;
+use super::PREDICATE;
 use super::PlacedHeap;
 use super::QueryBlock;
+use super::VALUES;
 ghost use mathlib.Core.Path.{_≡_};
 ghost use mathlib.Core.List.{_++_};
 ghost use Prim.Native.Nat.{_+_, _≤_, _<_};
@@ -53,14 +57,14 @@ pub fn query_predicate(query: &QueryBlock) -> u8
     requires { ⌜ queryPredicate (now query) < 256 ⌝ }
     ensures { λ r. ⌜ r ≡ queryPredicate (now (query .entry)) ⌝ }
 {
-    query[0] as u8
+    query[PREDICATE] as u8
 }
 
 // How many constants the rule set has.
 pub fn constant_count(query: &QueryBlock) -> usize
     ensures { λ r. ⌜ (r ≡ constantCount (now (query .entry))) × (r < 4294967296) ⌝ }
 {
-    wide(query[2])
+    wide(query[CONSTANTS])
 }
 
 // The fixed value of a number: nil of 0, and of one past the constants, so that nobody needs to show that no rule has it.
@@ -72,7 +76,7 @@ pub fn fixed_value(query: &QueryBlock, k: usize) -> u32
         return 0;
     }
     if k <= constant_count(query) {
-        return query[2 + k];
+        return query[CONSTANTS + k];
     }
     0
 }
@@ -82,8 +86,8 @@ pub fn query_values(query: &QueryBlock) -> &[u32]
     requires { ⌜ (constantCount (now query) ≤ 8) × (queryCount (now query) ≤ 4) ⌝ }
     ensures { λ r. ⌜ now r ≡ queryValues (now (query .entry)) ⌝ }
 {
-    let first = 3 + wide(query[2]);
-    let count = wide(query[1]);
+    let first = FIRST_GIVEN + wide(query[CONSTANTS]);
+    let count = wide(query[VALUES]);
     let all = &query[..];
     &all[first..first + count]
 }
@@ -93,9 +97,9 @@ pub fn given_values(query: &QueryBlock) -> &[u32]
     requires { ⌜ (constantCount (now query) ≤ 8) × (queryCount (now query) ≤ 4) ⌝ }
     ensures { λ r. ⌜ now r ≡ constantsIn (now (query .entry)) ++ queryValues (now (query .entry)) ⌝ }
 {
-    let count = wide(query[2]) + wide(query[1]);
+    let count = wide(query[CONSTANTS]) + wide(query[VALUES]);
     let all = &query[..];
-    &all[3..3 + count]
+    &all[FIRST_GIVEN..FIRST_GIVEN + count]
 }
 
 // ---- the heap in positions, entry by entry

@@ -17,12 +17,13 @@ module _ (given bytes : List ℕ) (c c₁ : Cursor) (n v : ℕ) (h : Yields (byt
   pub term-nil : v ≡ 255 → Yields (term (constantsIn given) n) bytes c c₁ (termAs (fixedIn given) 128)
   term-nil e = chain (termOf (constantsIn given) n) h (rw (eq-eqb v 255 e, termOf) (done bytes c₁ (fixed 0)))
 
-  module _ (other : v ≡ 255 → ⊥) where
-    pub term-var : v < n → n ≤ 8 → Yields (term (constantsIn given) n) bytes c c₁ (termAs (fixedIn given) v)
-    term-var l k =
-        rw (lt-ltb v 128 (omega arith), termAs)
-        (chain (termOf (constantsIn given) n) h (rw (ne-eqb v 255 other, lt-ltb v 128 (omega arith), termOf) (passed bytes c₁ (ltb v n) 3 (var v) (lt-ltb v n l))))
+  pub term-var : v < n → n ≤ 8 → Yields (term (constantsIn given) n) bytes c c₁ (termAs (fixedIn given) v)
+  term-var l k =
+      rw (lt-ltb v 128 (omega arith), termAs)
+      (chain (termOf (constantsIn given) n) h (rw (ne-eqb v 255 (λ e. absurd (omega arith)), lt-ltb v 128 (omega arith), termOf)
+      (passed bytes c₁ (ltb v n) 3 (var v) (lt-ltb v n l))))
 
+  module _ (other : v ≡ 255 → ⊥) where
     pub no-var : v < 128 → n ≤ v → (t : Term) → Yields (term (constantsIn given) n) bytes c (stopped 3 c₁) t
     no-var low l t =
         chain (termOf (constantsIn given) n) h (rw (ne-eqb v 255 other, lt-ltb v 128 low, termOf) (failed bytes c₁ (ltb v n) 3 (var v) t (le-ltb v n l)))

@@ -109,15 +109,15 @@ fn term(s: &[u8], c: Cursor, block: &mut [u8], at: usize, n: u8, given: &QueryBl
     let b = byte(s, c, ENDS);
     let v = b.value;
     let next = b.cursor;
+    if v < n {
+        block[at] = v;
+        return next;
+    }
     if v == NIL_TERM {
         block[at] = NIL_HELD;
         return next;
     }
     if v < CONSTANT {
-        if v < n {
-            block[at] = v;
-            return next;
-        }
         return stop(next, NAME);
     }
     if ((v - CONSTANT) as usize) < constant_count(given) {

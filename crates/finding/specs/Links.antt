@@ -1,5 +1,5 @@
--- Along the links of a rule: its equalities, and the fields of records at known addresses; `value` has the fixed values. No link loses a value; what it adds is what the
--- rule has wherever it applies; and what it leads to from a known side is known then.
+-- Along the links of a rule: its equalities, and the fields of records at known addresses; `value` has the fixed values. No link loses a
+-- value; what it adds is what the rule has wherever it applies; and what it leads to from a known side is known then.
 use mathlib.Core.{List.List, Path._≡_}
 use Prim.Native.Nat.{ℕ, _+_, _<_}
 use lib.ListN.{getD}

@@ -3,7 +3,7 @@ use mathlib.Core.{List.List, Path._≡_}
 use Prim.Native.Nat.{ℕ, _≤_, _<_}
 use lib.ListN.{length, getD}
 use Rattle.semantics.specs.Formats.{Query, readQuery, ladder}
-use Rattle.block.specs.Layout.{queryPredicate, queryPlace, queryValues, inputIn, ruleSetSize}
+use Rattle.block.specs.Layout.{constantsPlace, queryPredicate, queryPlace, queryValues, inputIn, ruleSetSize}
 use Rattle.reader.specs.Answer.{resultOf}
 use Rattle.reader.specs.declared.Ladder.{Ladder}
 
@@ -13,7 +13,7 @@ queryIn block = record { predicate = queryPredicate block; values = queryValues 
 
 pub record QueryRead (arities question block block′ : List ℕ) (r : Ladder) : Type 0 where
   pub is : readQuery arities question ≡ resultOf r (queryIn block′)
-  pub kept : (i : ℕ) → 2 ≤ i → i < queryPlace block → getD block′ i 0 ≡ getD block i 0
+  pub kept : (i : ℕ) → constantsPlace ≤ i → i < queryPlace block → getD block′ i 0 ≡ getD block i 0
   pub long : length block′ ≡ length block
 
 -- What `read` promises: the answer is the ladder's, and what is accepted is what the three blocks hold.

@@ -9,7 +9,8 @@ ghost use mathlib.Core.Path.{_≡_};
 ghost use Rattle.semantics.specs.Contract.{house as houseBook};
 ghost use Rattle.formats.specs.Refusal.{Read};
 
-// Refusals 1 to 9: the book, then the snapshot, then the question, each into its block, the book's constants into the question's. On a refusal what the blocks hold means nothing.
+// Refusals 1 to 9: the book, then the snapshot, then the question, each into its block, the book's constants into the question's. On a
+// refusal what the blocks hold means nothing.
 pub fn read(
     book: &[u8],
     snapshot: &[u8],

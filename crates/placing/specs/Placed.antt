@@ -5,7 +5,7 @@ use lib.ListN.{length, getD, take}
 use Rattle.semantics.specs.{Lists._among_, Lists.Ascending, Domain.mostValues, Fact.position, Placed.placedRules, Placed.placedHeap}
 use Rattle.words.specs.Entries.{entries}
 use Rattle.domain.specs.Insertion.{Parts}
-use Rattle.block.specs.Layout.{recordPlace, recordAddress, recordSize, recordField, heapIn, ruleSetIn, ruleSetRead, constantCount, fixedIn, firstConstant, firstGiven, firstRule, ruleSetSize, heapSize}
+use Rattle.block.specs.Layout.{recordPlace, recordAddress, recordSize, recordField, heapIn, ruleSetIn, ruleSetRead, constantsPlace, constantCount, fixedIn, firstConstant, firstGiven, firstRule, ruleSetSize, heapSize}
 
 -- The first n values of the array ascend, and the listed values are among them: then each has one position.
 pub record Placeable (array : List ℕ) (n : ℕ) (values : List ℕ) : Type 0 where
@@ -58,7 +58,7 @@ pub record ConstantsPlaced (domain query before after : List ℕ) (k : ℕ) : Ty
   pub long : length after ≡ ruleSetSize
   pub count : constantCount after ≡ constantCount query
   pub placed : (j : ℕ) → j < k → getD after (firstConstant + j) 0 ≡ position domain (getD query (firstGiven + j) 0)
-  pub others : (i : ℕ) → i ≢ 2 → (i < firstConstant) ⊎ (firstRule ≤ i) → getD after i 0 ≡ getD before i 0
+  pub others : (i : ℕ) → i ≢ constantsPlace → (i < firstConstant) ⊎ (firstRule ≤ i) → getD after i 0 ≡ getD before i 0
 
 -- The rules in positions, with the constants.
 pub record RulesPlaced (domain query before after : List ℕ) : Type 0 where

@@ -131,7 +131,7 @@ fn place_constants(
     ensures { λ _. ⌜ ConstantsPlaced (take n (now (domain .entry))) (now (query .entry)) (now (rules .entry)) (now (rules .exit)) (constantCount (now (query .entry))) ⌝ }
 {
     let count = block::heap::constant_count(query);
-    block::write_constants(rules, count as u8);
+    block::write_constant_count(rules, count as u8);
     let mut k = 0;
     while k < count {
         let value = block::heap::fixed_value(query, k + 1);

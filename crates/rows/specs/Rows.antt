@@ -1,11 +1,12 @@
--- Examples, no part of what must be believed: the starred rows of paper 01, each from its bytes, and what it is for a row to be true.
+-- Examples, no part of what must be believed: the starred rows of paper 01 and two with constants, each from its bytes, and what it is for a
+-- row to be true.
 use mathlib.Core.{Bool.Bool, Bool.true, Bool.false, List.List, List.[], List._∷_, List._++_, Path._≡_}
 use Prim.Native.Nat.{ℕ, _-_}
 use lib.ListN.{length, getD}
 use Rattle.semantics.specs.{Heap.wholeOf, Reader.accepted, Formats.Input, Formats.ladder, Faults.bookL, Faults.four, Faults.asks}
 use Rattle.semantics.specs.Contract.{FitsInput, TrimmedPart, CompletedInput, house}
 
--- The bytes asked about, and the reply: fits or not, facts, rounds, lines. `last` has the table's last fact, where the paper gives it.
+-- The bytes asked about, and the reply: fits or not, facts, rounds, lines. `last` has the table's last fact, where it is shown too.
 pub record Row : Type 0 where
   pub book : List ℕ
   pub snapshot : List ℕ

@@ -18,7 +18,7 @@ module _ {ruleSet : RuleSet} {heap : Heap} {rule : Rule} {arguments : List ℕ} 
       (e ∙ ap {B = Option ℕ} some (sym (found .agrees a (atom .address) x e) ∙ sym (ap (λ (z : Record). z .address) (r .is))))
 
   fixed-found : {term : Term} → Fixed ruleSet rule term → Has env term
-  fixed-found (Fixed.fixed-value {x = x}) = (x, refl)
+  fixed-found Fixed.fixed-value = (_, refl)
   fixed-found (Fixed.of-head {v = v} h) = (getD arguments v 0, found .heads v (omega (arith, a .arguments-counted)))
   fixed-found (Fixed.to-right m f) = found .to-right m (fixed-found f)
   fixed-found (Fixed.to-left m f) = found .to-left m (fixed-found f)

@@ -1,4 +1,5 @@
--- Three plain rule sets, one of them with constants, and for each of the three conditions a rule set that fails it and keeps the other two. The house book is not plain.
+-- Three plain rule sets, one of them with constants, and for each of the three conditions a rule set that fails it and keeps the other two.
+-- The house book is not plain.
 use mathlib.Core.{Path._≡_, Path.refl, Path.sym, Path._∙_, Path.subst, Logic.⊎-elim, Logic.by-cases, Logic._≢_}
 use mathlib.Core.List.{List, [], _∷_, cons≢nil, List·Memᴰ·head, List·Memᴰ·tail, List·Memᴰ·cases-cons, List·Memᴰ·not-nil}
 use Prim.Native.Nat.{ℕ, zero, suc, _<_}

@@ -109,9 +109,9 @@ constants = counted bookEnds bookCount 8 (value bookEnds)
 abbrev pub ruleSet : Reader RuleSet
 ruleSet = do
   arities ← predicates
-  cs ← constants
-  rules ← counted bookEnds bookCount 16 (rule arities cs)
-  give (record { arities = arities; constants = cs; rules = rules })
+  listed ← constants
+  rules ← counted bookEnds bookCount 16 (rule arities listed)
+  give (record { arities = arities; constants = listed; rules = rules })
 
 unfoldable pub readRuleSet : List ℕ → Result RuleSet
 readRuleSet bytes = all bookLonger (ruleSet bytes)

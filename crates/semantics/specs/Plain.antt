@@ -20,8 +20,9 @@ Consuming ruleSet = (rule : Rule) → rule among ruleSet .rules → Consumes rul
 abbrev pub equals : Term → Term → Pure
 equals left right = record { kind = equal; left = left; right = right }
 
--- Which terms of a rule are fixed: a fixed value (nil or a constant), the head's variables, and what is reached from these, along an equality either way
--- round or from the address of a points-to atom to a field. How the rule is written decides this: a contradiction by itself fixes nothing.
+-- Which terms of a rule are fixed: a fixed value (nil or a constant), the head's variables, and what is reached from these, along an
+-- equality either way round or from the address of a points-to atom to a field. How the rule is written decides this: a contradiction by
+-- itself fixes nothing.
 pub data Fixed (ruleSet : RuleSet) (rule : Rule) : Term → Type 0 where
   fixed-value : {x : ℕ} → Fixed ruleSet rule (fixed x)
   of-head : {v : ℕ} → v < arity ruleSet (rule .head) → Fixed ruleSet rule (var v)

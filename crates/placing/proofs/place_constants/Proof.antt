@@ -22,7 +22,7 @@ loop-holds c =
     let s = c .before .before .before in (
       omega arith,
       omega (arith, c .before .before .constant-count .ensures, s .pre .2),
-      rw (c .write-constants .ensures)
+      rw (c .write-constant-count .ensures)
           (constants-none (length-set (s .args .rules .now) 2 _ ∙ s .pre .1) (getD-set-same (s .args .rules .now) 2 _ 0 (omega (arith, s .pre .1)) ∙ c .before .before .constant-count .ensures .0)),
     )
 
@@ -49,7 +49,7 @@ returns c =
     let s = c .before .before .before .before .before in
     let l = c .before .loop in
     let e : l .k ≡ constantCount (s .args .query .now) = omega (arith, c .before .before .before .before .constant-count .ensures) in
-    constants-after (s .args .rules .now) _ (c .before .before .write-constants .ensures) (rw e at (l .inv .2))
+    constants-after (s .args .rules .now) _ (c .before .before .write-constant-count .ensures) (rw e at (l .inv .2))
 
 pub place-constants-spec : {M : Type 1} → statement M
 place-constants-spec =

@@ -6,7 +6,7 @@ use native.Mathlib.Omega.{arith}
 use Rattle.semantics.specs.Tree.{valueOf}
 use Rattle.words.proofs.Tabulate.{tabulate-in}
 use Rattle.block.specs.Layout.{termAs, callAs, fixedIn, callCount, callPlace, callArity, callTerm}
-use Rattle.block.specs.Ready.{TermByte, Fitting, variablesIn}
+use Rattle.block.specs.Ready.{TermByte, FixedFits, variablesIn}
 use Rattle.block.proofs.{Scopes.scoped-of, TermsInBlock.terms-are, Values.terms-same}
 use Rattle.finding.proofs.Known.{valued-all, valued-small}
 use Rattle.walk.proofs.{Arguments.Written, Arguments.written-none, Arguments.written-more, Arguments.written-take, Arguments.written-counted, Trying.starts}
@@ -27,7 +27,7 @@ few c =
     omega (arith, c .call-arity .ensures .0, s .pre .0 .formed .ready .call-arity (s .args .c) (s .pre .1))
 
 term : (c : tie.In-loop Inv-loop μ-loop) → let g = c .before .before .before .args in
-    TermByte (Fitting (g .given .now)) (variablesIn (g .rules .now) (g .rule)) (callTerm (g .rules .now) (g .rule) (g .c) (c .before .loop .j))
+    TermByte (FixedFits (g .given .now)) (variablesIn (g .rules .now) (g .rule)) (callTerm (g .rules .now) (g .rule) (g .c) (c .before .loop .j))
 term c =
     let s = c .before .before .before in
     s .pre .0 .formed .ready .call-term (s .args .c) (s .pre .1) (c .before .loop .j) (omega (arith, c .loop-test .taken, c .before .before .call-arity .ensures .0))
@@ -43,7 +43,7 @@ entry-requires c κs =
     let s = l .before .before in
     let g = s .args in (
       rw (c .call-term .ensures)
-          (scoped-of (Fitting (g .given .now)) (variablesIn (g .rules .now) (g .rule)) (callTerm (g .rules .now) (g .rule) (g .c) (l .loop .j)) (s .pre .0 .formed .ready .variables-few) (term (c .before))),
+          (scoped-of (FixedFits (g .given .now)) (variablesIn (g .rules .now) (g .rule)) (callTerm (g .rules .now) (g .rule) (g .c) (l .loop .j)) (s .pre .0 .formed .ready .variables-few) (term (c .before))),
       s .pre .3 .constants-few,
     )
 
