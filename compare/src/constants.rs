@@ -21,11 +21,16 @@ pub fn run(comparer: &mut Comparer, dice: &mut Dice) {
         let book = generate::book(dice, Size::Middle);
         every_number(comparer, dice, &book);
     }
-    for _ in 0..100 {
-        most_kept(comparer, dice);
+    // The first in every run, so that even a thin one has the most values.
+    for turn in 0..100 {
+        if comparer.takes_turn() || turn == 0 {
+            most_kept(comparer, dice);
+        }
     }
-    for _ in 0..6 {
-        most_kept_unfolded(comparer, dice);
+    for turn in 0..6 {
+        if comparer.takes_turn() || turn == 0 {
+            most_kept_unfolded(comparer, dice);
+        }
     }
 }
 
@@ -106,9 +111,6 @@ fn apart(dice: &mut Dice) -> Apart {
 /// Each of the questions, with values that are in the pool or not: some part
 /// fits for some of them. Where two values are the same number, there are fewer.
 fn most_kept(comparer: &mut Comparer, dice: &mut Dice) {
-    if !comparer.takes_turn() {
-        return;
-    }
     let Apart {
         mut constants,
         heap,
@@ -144,9 +146,6 @@ fn most_kept(comparer: &mut Comparer, dice: &mut Dice) {
 
 /// An unfolding of all records that no engine finds, since no table has room.
 fn most_kept_unfolded(comparer: &mut Comparer, dice: &mut Dice) {
-    if !comparer.takes_turn() {
-        return;
-    }
     let Apart {
         constants,
         heap,
