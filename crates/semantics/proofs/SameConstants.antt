@@ -1,14 +1,15 @@
 -- Constants matter by their values alone. Two rule sets that differ only in how they list them have one domain, since its members are decided
 -- by the values.
-use mathlib.Core.{Path._≡_, Path.refl, Path.ap, Path.ap₂, Logic.⊎-elim}
+use mathlib.Core.{Path._≡_, Path.refl, Path.sym, Path.ap, Path.ap₂, Logic.⊎-elim}
 use mathlib.Core.List.{List, [], _∷_, _++_, List·Memᴰ·head, List·Memᴰ·tail, List·Memᴰ·cases-cons, Memᴰ·append-left, Memᴰ·append-right, List·Memᴰ·append-cases}
 use Prim.Native.Nat.{ℕ, zero, suc, _+_, max}
 use native.Mathlib.Omega.{arith}
 use lib.ListN.{getD}
-use Rattle.semantics.specs.{Lists._among_, RuleSet.Rule, RuleSet.RuleSet, SameConstants.SameRules, Heap.Heap}
+use Rattle.semantics.specs.{Lists._among_, RuleSet.Rule, RuleSet.RuleSet, SameConstants.SameRules, Heap.Heap, Tree.ByHand, Tree.Fits}
 use Rattle.semantics.specs.Domain.{good, least, spares, ascending, mostVariables, domain}
 use Rattle.semantics.proofs.{Order.same-members, DomainFacts.least-outside, DomainFacts.least-smallest}
 use Rattle.semantics.proofs.DomainFacts.{ascending-in, ascending-out, ascending-ascending}
+use Rattle.semantics.proofs.UnfoldedRules.{part-more, fits-more}
 
 -- ---- members decide
 
@@ -59,3 +60,18 @@ module _ {a b : RuleSet} (same : SameRules a b) (heap : Heap) (values : List ℕ
       let kept : List ℕ = spares n (good b heap values) in
       rw (most-same a b (same .arities) (a .rules), same .rules, spares-same n (good a heap values) (good b heap values) good-to good-from)
       (ascending-same (kept ++ good a heap values) (kept ++ good b heap values) (append-within {xs = kept} (λ v m. m) good-to) (append-within {xs = kept} (λ v m. m) good-from))
+
+-- ---- what is taken by hand and what is ground
+
+module _ {a b : RuleSet} (same : SameRules a b) where
+  pub exchanged : SameRules b a
+  exchanged = record { arities = sym (same .arities); rules = sym (same .rules); fixed = λ v. (same .fixed v .1, same .fixed v .0) }
+
+  kept : (rule : Rule) → rule among a .rules → rule among b .rules
+  kept rule m = rw (same .rules) at m
+
+  pub part-same : {heap : Heap} {p : ℕ} {vs : List ℕ} {part : ℕ} → ByHand a heap p vs part → ByHand b heap p vs part
+  part-same {heap} = part-more a b heap (same .arities) kept
+
+  pub fits-same : {heap : Heap} {p : ℕ} {vs : List ℕ} → Fits a heap p vs → Fits b heap p vs
+  fits-same {heap} = fits-more a b heap (same .arities) kept

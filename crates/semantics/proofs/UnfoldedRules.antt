@@ -7,7 +7,7 @@ use native.Mathlib.Omega.{arith}
 use lib.ListN.{length, getD}
 use Rattle.semantics.specs.{Lists._among_, Heap.Heap, Formats.Input, Formats.WellFormedInput, Plain.Consumes, Plain.Consuming}
 use Rattle.semantics.specs.RuleSet.{PointsTo, Call, Rule, RuleSet, WellFormedRule, WellFormed}
-use Rattle.semantics.specs.{Tree.Applies, Tree.Tree, Tree.Forest, Tree.Fits, Walk.unfolded, Walk.unfoldedRules, Walk.unfoldedOnly}
+use Rattle.semantics.specs.{Tree.Applies, Tree.Tree, Tree.Forest, Tree.ByHand, Tree.Fits, Walk.unfolded, Walk.unfoldedRules, Walk.unfoldedOnly}
 
 -- ---- by more rules
 
@@ -29,8 +29,11 @@ module _ (ruleSet more : RuleSet) (heap : Heap) (same : ruleSet .arities ≡ mor
     forest-more Forest.none = Forest.none
     forest-more (Forest.next here rest tree forest t) = Forest.next here rest (tree-more tree) (forest-more forest) t
 
-  fits-more : {p : ℕ} {vs : List ℕ} → Fits ruleSet heap p vs → Fits more heap p vs
+  pub fits-more : {p : ℕ} {vs : List ℕ} → Fits ruleSet heap p vs → Fits more heap p vs
   fits-more f = record { taken = f .taken; tree = tree-more (f .tree); once = f .once; all = f .all }
+
+  pub part-more : {p : ℕ} {vs : List ℕ} {part : ℕ} → ByHand ruleSet heap p vs part → ByHand more heap p vs part
+  part-more f = record { taken = f .taken; tree = tree-more (f .tree); once = f .once; part-taken = f .part-taken }
 
 -- ---- which rules are unfolded
 
