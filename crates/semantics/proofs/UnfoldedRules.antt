@@ -12,7 +12,7 @@ use Rattle.semantics.specs.{Tree.Applies, Tree.Tree, Tree.Forest, Tree.B
 -- ---- by more rules
 
 module _ (ruleSet more : RuleSet) (heap : Heap) (same : ruleSet .arities ≡ more .arities) (kept : (rule : Rule) → rule among ruleSet .rules → rule among more .rules) where
-  applies-more : {rule : Rule} {arguments bound indices : List ℕ} → Applies ruleSet heap rule arguments bound indices → Applies more heap rule arguments bound indices
+  pub applies-more : {rule : Rule} {arguments bound indices : List ℕ} → Applies ruleSet heap rule arguments bound indices → Applies more heap rule arguments bound indices
   applies-more {rule} a = record {
     listed = kept rule (a .listed);
     arguments-counted = a .arguments-counted ∙ ap (λ (counts : List ℕ). getD counts (rule .head) 0) same;
