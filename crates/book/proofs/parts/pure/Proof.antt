@@ -1,8 +1,8 @@
 -- The three parts make the condition, and each leaves alone what the others wrote.
 use native.Mathlib.Omega.{arith}
 use Rattle.book.proofs.Conditions.{pure-fills}
-use Rattle.book.proofs.pure.Statement.{statement}
-use Rattle.book.proofs.pure.Tie as tie
+use Rattle.book.proofs.parts.pure.Statement.{statement}
+use Rattle.book.proofs.parts.pure.Tie as tie
 
 returns : tie.Need-returns
 returns c =

@@ -1,8 +1,8 @@
 -- Address, count and fields make the atom, and each leaves alone what the others wrote.
 use native.Mathlib.Omega.{arith}
 use Rattle.book.proofs.Conditions.{atom-fills}
-use Rattle.book.proofs.atom.Statement.{statement}
-use Rattle.book.proofs.atom.Tie as tie
+use Rattle.book.proofs.parts.atom.Statement.{statement}
+use Rattle.book.proofs.parts.atom.Tie as tie
 
 returns : tie.Need-returns
 returns c =

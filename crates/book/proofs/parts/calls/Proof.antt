@@ -4,8 +4,8 @@ use Prim.Native.Nat.{_-_}
 use Rattle.book.specs.BookLayout.{aritiesIn, callLayout}
 use Rattle.book.proofs.{Heading.arities-kept, Heading.header-kept, Locals.call-local}
 use Rattle.reader.proofs.Section.{Filled, none, more, whole}
-use Rattle.book.proofs.calls.Statement.{statement}
-use Rattle.book.proofs.calls.Tie as tie
+use Rattle.book.proofs.parts.calls.Statement.{statement}
+use Rattle.book.proofs.parts.calls.Tie as tie
 
 abbrev Inv-loop : tie.InvT-loop
 Inv-loop s block₀ from count n given most next₀ k₀ block next k = Filled (callLayout (aritiesIn block₀) given n) from count s next₀ block₀ k block next

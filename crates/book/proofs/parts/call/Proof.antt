@@ -1,8 +1,8 @@
 -- The name and the arguments make the call: the arities stand below what is written.
 use native.Mathlib.Omega.{arith}
 use Rattle.book.proofs.{Conditions.call-fills, Heading.arity-few}
-use Rattle.book.proofs.call.Statement.{statement}
-use Rattle.book.proofs.call.Tie as tie
+use Rattle.book.proofs.parts.call.Statement.{statement}
+use Rattle.book.proofs.parts.call.Tie as tie
 
 returns : tie.Need-returns
 returns c =

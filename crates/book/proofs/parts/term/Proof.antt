@@ -5,8 +5,8 @@ use Rattle.block.specs.Layout.{termAs, fixedIn}
 use Rattle.reader.specs.Layout.{Any}
 use Rattle.reader.proofs.Keep.{stored, kept-none}
 use Rattle.book.proofs.Naming.{term-nil, term-var, no-var, term-constant, no-constant}
-use Rattle.book.proofs.term.Statement.{statement}
-use Rattle.book.proofs.term.Tie as tie
+use Rattle.book.proofs.parts.term.Statement.{statement}
+use Rattle.book.proofs.parts.term.Tie as tie
 
 returns : tie.Need-returns
 returns c =
