@@ -15,7 +15,8 @@
  * Of desk_decide alone:
  *  11 there are more than 1,024 facts
  * README.md says what to do about each. 10 is not given here: the entries bring their own memory.
- * A book has a section of constants after its argument counts, a 00 if there is none; one from before constants came gains that byte.
+ * A book has a section of constants after its argument counts, a 00 if there is none. One from before constants came gains that byte:
+ * without it most are refused with 1 to 4, but a short one may be read as another book.
  *
  * Nothing is allocated, nothing that is lent is changed or kept, and no byte outside a block is read. A block of no bytes may have any
  * pointer that is not null. The entries share nothing, so several threads may call them at once. On the stack desk_decide

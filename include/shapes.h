@@ -13,7 +13,8 @@
  *  10 the memory does not fit together: a table is 1 to 65,535 words long, and the space three times that
  *  11 there are more facts than the table has words
  * README.md says what to do about each, docs/FORMAT.md has the bytes of book, snapshot and question and the words of table and space.
- * A book has a section of constants after its argument counts, a 00 if there is none; one from before constants came gains that byte.
+ * A book has a section of constants after its argument counts, a 00 if there is none. One from before constants came gains that byte:
+ * without it most are refused with 1 to 4, but a short one may be read as another book.
  *
  * Lengths count bytes, or words of 64 bits. Nothing is allocated or kept, and nothing outside what is lent is read or written. A block of
  * length 0 may have any pointer that is not null and is aligned for its type; no two blocks that are written may overlap each other or one
