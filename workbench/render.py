@@ -4,7 +4,7 @@ own, and it says so."""
 from collections.abc import Iterable
 
 from workbench.asking import DOES_NOT_FIT, FITS, NOT_ANSWERED, REFUSED, Answer
-from workbench.hints import Hints, Place, Unreached
+from workbench.hints import Held, Hints, Place, Unreached
 from workbench.names import Names
 from workbench.refusals import sentence
 from workbench.unfolding import Node, tree
@@ -25,7 +25,7 @@ NO_PART_HINTS = (
     "No hints: every value of the question and every field of the records to which these lead is nil or names a record, and these",
     "fields hold no record in two places, apart from records that point to one another.",
 )
-WITH_NUMBERS = "Numbers that stand in the book, such as type codes, are passed over."
+WITH_NUMBERS = "Numbers that stand in the book, such as type codes, are passed over where they name no record."
 NO_FIND = "the question holds without any record, which says nothing about the pool; a shape that needs a record tells more"
 LARGER = "larger parts may fit as well; whether all records do is asked without --part"
 WALK_YES = "The walk gives no unfolding to show or to save. To have one, ask the engine:"
@@ -157,7 +157,7 @@ def _hint_rows(answer: Answer) -> list[str]:
 
 def hint_sentences(found: Hints, names: Names) -> list[str]:
     value = names.value
-    rows = [f"{value(held.record)} is held by {len(held.places)} fields: {_places(held.places, names)}" for held in found.held]
+    rows = [_held(held, names) for held in found.held]
     rows += [_unreached(lost, names) for lost in found.unreached]
     for loose in found.dangling:
         asked = ", which names no record (the question names it too)" if loose.asked else ", which is not nil and names no record"
@@ -165,6 +165,13 @@ def hint_sentences(found: Hints, names: Names) -> list[str]:
     for outside in found.outside:
         rows.append(f"the question's {ORDINALS[outside.argument - 1]} value {value(outside.value)} is not nil and names no record")
     return rows
+
+
+def _held(held: Held, names: Names) -> str:
+    """A constant may be a record's address by chance: then nobody knows of a field which of the two it holds."""
+    record = names.value(held.record)
+    also = f" ({record} is also a number of the book: some of these fields may be codes)" if held.record in names.book.constants else ""
+    return f"{record} is held by {len(held.places)} fields: {_places(held.places, names)}{also}"
 
 
 def _places(places: Iterable[Place], names: Names) -> str:

@@ -9,6 +9,7 @@ from workbench.book_text import parse_book
 from workbench.library import Reply
 from workbench.model import Book, Call, Condition, Pool, Predicate, Question, Record, Rule, UNEQUAL
 from workbench.pool_bytes import encode_pool
+from workbench.pool_text import parse_pool
 from workbench.question_bytes import encode_question
 from workbench.render import aligned, answer_text, next_text, short_text, sum_text
 from workbench.report_json import result
@@ -106,11 +107,24 @@ class DoesNotFit(unittest.TestCase):
 
     def test_numbers_of_the_book(self):
         book = parse_book("p { a -> 7, 8 => p(a) }", "book")
-        passed = "Numbers that stand in the book, such as type codes, are passed over.\n"
+        passed = "Numbers that stand in the book, such as type codes, are passed over where they name no record.\n"
         said = text(book, Pool((Record(10, (7, 7)),)), Question(0, (10,)))
         self.assertRegex(said, f"^does not fit\nNo hints: .*\n.*\n{passed}$")
         said = text(book, Pool((Record(10, (7, 9)),)), Question(0, (10,)))
         self.assertRegex(said, f"^does not fit\nHints .*\n{passed}  field 2 of 10 holds 9, which is not nil and names no record\n$")
+
+    def test_an_address_that_is_a_number_of_the_book(self):
+        """As the pool writes it, and not the book."""
+        book = parse_book("p { a -> 0x14, b * c != 30 => p(a, b) }", "book")
+        pool = parse_pool("10: 0X14, 0X14\n0X14: 30, 30, 40\n30: nil\n40: 40", "pool")
+        self.assertIn(
+            "\n  0X14 is held by 2 fields: field 1 of 10, field 2 of 10"
+            " (0X14 is also a number of the book: some of these fields may be codes)\n"
+            "  30 is held by 2 fields: field 1 of 0X14, field 2 of 0X14"
+            " (30 is also a number of the book: some of these fields may be codes)\n"
+            "  40 is held by 2 fields: field 3 of 0X14, field 1 of 40\n",
+            text(book, pool, Question(0, (10, 0))),
+        )
 
     def test_no_hints_about_a_doubly_linked_list(self):
         """Its middle is held twice, which is no hint, and not to be denied either."""
