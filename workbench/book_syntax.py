@@ -1,6 +1,8 @@
 """From the tokens of a book to its blocks and cases, with the place of every name; what a case may have at most is seen to here."""
 
 from dataclasses import dataclass, field
+from itertools import count, takewhile
+from string import ascii_lowercase
 
 from workbench.lexer import RESERVED, TERMS, Token, Tokens, shorten, shown
 from workbench.mistake import Mistake
@@ -8,7 +10,11 @@ from workbench.model import MOST_ARGUMENTS, MOST_CALLS, MOST_CELLS, MOST_CONDITI
 
 # Begins the list of constants. It is not reserved: a predicate of this name is followed by { or (.
 CONSTANTS = "constants"
+LATE_LIST = "a list of constants stands once and ahead of all blocks: move it there"
+SECOND_LIST = "there is a list of constants already: write one list with the constants of both, ahead of all blocks"
 NO_BLOCK = "there is no block here: a book has at least one, such as p { emp => p() }"
+# What follows the name or number with which an atom begins.
+AFTER_FIRST = ("=", "!=", "->", "(")
 ORDINALS = {4: "fourth", 5: "fifth", 9: "ninth", 17: "seventeenth"}
 
 
@@ -45,7 +51,7 @@ def parse_blocks(tokens: Tokens) -> tuple[list[Token], list[Block]]:
         raise tokens.mistake(NO_BLOCK, tokens.peek())
     while tokens.peek().kind != "end":
         if _lists_constants(tokens):
-            raise tokens.mistake("a list of constants stands once and ahead of all blocks: move it there", tokens.peek())
+            raise tokens.mistake(SECOND_LIST if listed else LATE_LIST, tokens.peek())
         blocks.append(_block(tokens))
         if not tokens.take(";") and tokens.peek().kind != "end":
             raise _after_block(tokens)
@@ -84,7 +90,7 @@ def _refuse_other_texts(tokens: Tokens) -> None:
     first, second = tokens.peek(), tokens.peek(1)
     if first.kind == "end":
         raise tokens.mistake(NO_BLOCK, first)
-    if first.kind == "number" or (first.text == "emp" and second.kind == "end"):
+    if (first.kind == "number" and second.kind == ":") or (first.text == "emp" and second.kind == "end"):
         raise tokens.mistake("this is a pool and no book: a book has blocks such as p { emp => p() }", first)
     if first.kind == "name" and second.kind == "(" and not any(token.kind == "{" for token in tokens.all):
         raise tokens.mistake("this is a question and no book: a book has blocks such as p { emp => p() }", first)
@@ -92,6 +98,7 @@ def _refuse_other_texts(tokens: Tokens) -> None:
 
 def _block(tokens: Tokens) -> Block:
     name = tokens.next()
+    _refuse_number(tokens, name)
     if name.kind != "name":
         raise tokens.mistake(f"{shown(name)} begins no block: write the name of a predicate, as in p {{ emp => p() }}", name)
     _refuse_reserved(tokens, name, "predicate")
@@ -182,7 +189,7 @@ def _atom(tokens: Tokens, case: Case) -> None:
         raise tokens.mistake(f"an atom is missing before {shown(token)}: write one, or emp where there is none", token)
     if token.text == "exists":
         raise tokens.mistake("exists stands at the beginning of a case only: list all names there", token)
-    if token.text == "emp" and after.kind not in ("=", "!=", "->", "("):
+    if token.text == "emp" and after.kind not in AFTER_FIRST:
         tokens.next()
     elif after.kind in ("=", "!="):
         _condition(tokens, case)
@@ -213,8 +220,8 @@ def _cell(tokens: Tokens, case: Case) -> None:
     if address.text == "nil" or (address.kind == "number" and not address.text.strip("0xX")):
         raise tokens.mistake(f"{shown(address)} is no address: the address of a cell must be a name", address)
     if address.kind != "name":
-        instead = f"write a name a there, and the condition a = {shown(address)}"
-        raise tokens.mistake(f"{shown(address)} is a number, and the address of a cell must be a name: {instead}", address)
+        message = f"{shown(address)} is a number, and the address of a cell must be a name: {_name_for(tokens, address)}"
+        raise tokens.mistake(message, address)
     _limit(tokens, case.cells, MOST_CELLS, address, "cell", "cells")
     _term(tokens, case)
     tokens.next()
@@ -229,13 +236,22 @@ def _open_fields(tokens: Tokens, case: Case) -> list[Token]:
         if tokens.peek().kind not in TERMS:
             message = f"a field is missing before {shown(tokens.peek())}: write a name, a number or nil; a cell without fields is a -> ()"
             raise tokens.mistake(message, tokens.peek())
-        if tokens.peek(1).kind in ("(", "=", "!=", "->"):
+        if tokens.peek(1).kind in AFTER_FIRST:
             raise _atom_for_field(tokens, comma)
         _limit(tokens, fields, MOST_FIELDS, tokens.peek(), "field", "fields", "a cell")
         fields.append(_term(tokens, case))
         comma = tokens.take(",")
         if not comma:
+            _refuse_no_comma(tokens)
             return fields
+
+
+def _refuse_no_comma(tokens: Tokens) -> None:
+    """What follows a field and begins no atom may be another field."""
+    token = tokens.peek()
+    if token.kind in TERMS and token.text not in ("emp", "exists") and tokens.peek(1).kind not in AFTER_FIRST:
+        instead = "write , between fields, * between atoms, and => before the head"
+        raise tokens.mistake(f", * or => is missing before {shown(token)}: {instead}", token)
 
 
 def _atom_for_field(tokens: Tokens, comma: Token | None) -> Mistake:
@@ -247,8 +263,7 @@ def _atom_for_field(tokens: Tokens, comma: Token | None) -> Mistake:
 
 def _call(tokens: Tokens, case: Case) -> None:
     name = tokens.next()
-    if name.kind != "name":
-        raise tokens.mistake(f"{shown(name)} is a number and no name of a predicate: write another name", name)
+    _refuse_number(tokens, name)
     _refuse_reserved(tokens, name, "predicate")
     _limit(tokens, case.calls, MOST_CALLS, name, "call", "calls")
     tokens.next()
@@ -317,12 +332,28 @@ def _check_argument(tokens: Tokens, token: Token, before: list[Token]) -> None:
     if token.kind not in TERMS:
         raise tokens.mistake(f"a name is missing before {shown(token)}: the arguments of a head are different names", token)
     if token.text == "nil" or token.kind != "name":
-        instead = f"write a name a there, and the condition a = {shown(token)}"
-        raise tokens.mistake(f"{shown(token)} cannot be an argument of a head: {instead}", token)
+        raise tokens.mistake(f"{shown(token)} cannot be an argument of a head: {_name_for(tokens, token)}", token)
     _refuse_no_variable(tokens, token)
     if any(token.text == other.text for other in before):
-        other = f"write another name b there, and the condition {shown(token)} = b"
+        name = _free_name(tokens, token)
+        other = f"write another name {name} there, and the condition {shown(token)} = {name}"
         raise tokens.mistake(f"{shown(token)} stands twice in the head: {other}", token)
+
+
+def _name_for(tokens: Tokens, token: Token) -> str:
+    """What to write for a number or nil where only a name can be."""
+    name = _free_name(tokens, token)
+    return f"write a name {name} there, and the condition {name} = {shown(token)}"
+
+
+def _free_name(tokens: Tokens, token: Token) -> str:
+    """The first of a, b, c and so on that does not stand in the token's case, which may not have been read to its end."""
+    at = tokens.all.index(token)
+    before = takewhile(lambda each: each.kind not in ("{", "|", ";"), reversed(tokens.all[:at]))
+    after = takewhile(lambda each: each.kind not in ("}", "|"), tokens.all[at:])
+    taken = {each.text for each in (*before, *after)}
+    names = (letter + "'" * primes for primes in count() for letter in ascii_lowercase)
+    return next(name for name in names if name not in taken)
 
 
 def _note(tokens: Tokens, case: Case, token: Token) -> None:
@@ -336,6 +367,11 @@ def _limit(tokens: Tokens, found: list, most: int, token: Token, one: str, many:
     if len(found) == most:
         this = owner.replace("a ", "this ", 1)
         raise tokens.mistake(f"{this} has a {ORDINALS[most + 1]} {one}: {owner} has at most {most} {many}", token)
+
+
+def _refuse_number(tokens: Tokens, token: Token) -> None:
+    if token.kind in ("number", "place"):
+        raise tokens.mistake(f"{shown(token)} is a number and no name of a predicate: write another name", token)
 
 
 def _refuse_reserved(tokens: Tokens, token: Token, what: str) -> None:

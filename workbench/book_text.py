@@ -53,20 +53,37 @@ class _Constants:
         if value == 0 or value in self.values:
             return
         if len(self.values) == MOST_CONSTANTS:
-            limit = f"a book has at most {MOST_CONSTANTS} different ones" + ", with those listed" * bool(self.listed)
-            raise self.tokens.mistake(f"this book has a {ORDINALS[MOST_CONSTANTS + 1]} number, {shown(token)}: {limit}", token)
+            raise self.tokens.mistake(self._one_too_many(token), token)
         self.values.append(value)
+
+    def _one_too_many(self, token: Token) -> str:
+        ninth = ORDINALS[MOST_CONSTANTS + 1]
+        if self.listed:
+            limit = f"a book has at most {MOST_CONSTANTS}, and each of the list counts, equal ones and 0 too"
+            return f"{shown(token)} would be a {ninth} constant: {limit}; shorten the list, or make {shown(token)} an argument of the predicate"
+        limit = f"a book has at most {MOST_CONSTANTS} different ones; make it an argument of the predicate, which the question then gives"
+        return f"this book has a {ninth} number, {shown(token)}: {limit}"
 
     def term(self, token: Token) -> int:
         if token.kind == "number":
             value = read_value(self.tokens, token)
             return FIRST_CONSTANT + self.values.index(value) if value else NIL
         place = token.text.removeprefix("@")
-        if place not in map(str, range(1, self.listed + 1)):
-            known = f"{count(self.listed, 'constant')} {'is' if self.listed == 1 else 'are'} listed ahead of the blocks"
-            instead = f"write @1{f' to @{self.listed}' * (self.listed > 1)}" if self.listed else "write a number"
-            raise self.tokens.mistake(f"{shown(token)} names no constant, since {known}: {instead}", token)
+        if not self._is_place(place):
+            raise self.tokens.mistake(self._no_place(token), token)
         return FIRST_CONSTANT + int(place) - 1
+
+    def _is_place(self, text: str) -> bool:
+        return text in map(str, range(1, self.listed + 1))
+
+    def _no_place(self, token: Token) -> str:
+        # A place is at most 8, which is the same digit in base sixteen.
+        meant = token.text.lstrip("@0xX")
+        if self._is_place(meant):
+            return f"write the place in base ten without a 0 in front: @{meant}"
+        known = f"{count(self.listed, 'constant')} {'is' if self.listed == 1 else 'are'} listed ahead of the blocks"
+        instead = f"write @1{f' to @{self.listed}' * (self.listed > 1)}" if self.listed else "write a number"
+        return f"{shown(token)} names no constant, since {known}: {instead}"
 
 
 def _predicates(tokens: Tokens, blocks: list[Block]) -> dict[str, list[Token]]:

@@ -156,6 +156,8 @@ class Tokens:
 
 
 def _unknown(character: str) -> str:
+    if character == "@":
+        return "@ is followed by a place in a book's list of constants, as in @1"
     name = f"{character} (U+{ord(character):04X})" if character.isprintable() else f"U+{ord(character):04X}"
     if character.isdecimal():
         return f"the digit {name} has no meaning here: write the digits 0 to 9"

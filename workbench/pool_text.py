@@ -1,6 +1,6 @@
 """Pools as text: one record to a line, such as `10: 20`, and `emp` for the pool with no record."""
 
-from workbench.lexer import Token, Tokens, shown
+from workbench.lexer import TERMS, Token, Tokens, shown
 from workbench.mistake import Mistake
 from workbench.model import MOST_FIELDS, MOST_RECORDS, Pool, Record
 from workbench.values import read_value, spellings_of, write_value
@@ -51,7 +51,7 @@ def _record(tokens: Tokens, read: list[tuple[int, Token]]) -> Record:
         raise tokens.mistake("emp stands alone, for a pool with no record: take it away", place)
     if place.kind == "name" and place.text != "nil":
         raise tokens.mistake(f"{shown(place)} is no address: {SUCH_AS}; names stand in books only", place)
-    if place.kind not in ("name", "number"):
+    if place.kind not in TERMS:
         raise tokens.mistake(f"{shown(place)} begins no record: {SUCH_AS}", place)
     address = read_value(tokens, place)
     if address == 0:
@@ -99,7 +99,7 @@ def _fields(tokens: Tokens, line: int, read: list[tuple[int, Token]]) -> list[in
 
 def _field(tokens: Tokens, read: list[tuple[int, Token]]) -> int:
     token = tokens.next()
-    if token.kind not in ("name", "number"):
+    if token.kind not in TERMS:
         raise tokens.mistake(f"a field is missing before {shown(token)}: write a number or nil", token)
     value = read_value(tokens, token)
     read.append((value, token))

@@ -1,6 +1,6 @@
 """Questions as text, such as `segment(10, nil)`."""
 
-from workbench.lexer import Token, Tokens, shorten, shown
+from workbench.lexer import TERMS, Token, Tokens, shorten, shown
 from workbench.model import Book, Question
 from workbench.wording import count, suggestion
 from workbench.values import read_value, spellings_of, write_value
@@ -30,7 +30,7 @@ def _values(tokens: Tokens, name: Token, due: int) -> list[tuple[int, Token]]:
         token = tokens.next()
         if token.kind == "name" and token.text != "nil":
             raise tokens.mistake(f"{shown(token)} is no value: a question has numbers and nil only", token)
-        if token.kind not in ("name", "number"):
+        if token.kind not in TERMS:
             raise tokens.mistake(f"a value is missing before {shown(token)}: write a number or nil", token)
         read.append((read_value(tokens, token), token))
         closed = tokens.take(")")

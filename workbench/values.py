@@ -12,6 +12,8 @@ MOST_DIGITS = len(str(MOST_VALUE))
 def read_value(tokens: Tokens, token: Token) -> int:
     if token.kind == "name" and token.text == "nil":
         return 0
+    if token.kind == "place":
+        raise tokens.mistake(f"{shown(token)} stands in books only: write the number itself", token)
     if token.kind != "number":
         raise tokens.mistake(f"{shown(token)} is no value: write a number or nil", token)
     value = _number(token.text)

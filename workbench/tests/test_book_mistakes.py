@@ -73,7 +73,7 @@ NAMES = [
     ("p { ‸emp -> a => p(a) }", "emp is a reserved word and no name of a variable: write another name"),
     ("p { ‸nil -> x => p(x) }", "nil is no address: the address of a cell must be a name"),
     ("p { ‸segmnt(a) => p(a) } ; segment(a) { }", "there is no predicate segmnt in this book: did you mean segment?"),
-    ("p { emp => p(a) } ; ‸@", "the character @ (U+0040) has no meaning here: take it away; names have letters, digits, _ and '"),
+    ("p { emp => p(a) } ; ‸@", "@ is followed by a place in a book's list of constants, as in @1"),
     ("p { a‸² = b => p(a) }", "the character ² (U+00B2) has no meaning here: take it away; names have letters, digits, _ and '"),
     ("p { ‸2a = b => p(a) }", "2a is no number and no name: write base sixteen after 0x; a name begins with a letter"),
     ("‸exists { emp => p() }", "exists is a reserved word and no name of a predicate: write another name"),
@@ -95,13 +95,21 @@ NAMES = [
 ]
 
 NINE = " * ".join(f"a != {number}" for number in range(1, 9))
+WAY_OUT = "make it an argument of the predicate, which the question then gives"
+LISTED = "a book has at most 8, and each of the list counts, equal ones and 0 too; shorten the list, or make 8 an argument of the predicate"
+SECOND = "there is a list of constants already: write one list with the constants of both, ahead of all blocks"
+FIELDS = "write , between fields, * between atoms, and => before the head"
 NUMBERS = [
     ("p { ‸7 -> x => p(x) }", "7 is a number, and the address of a cell must be a name: write a name a there, and the condition a = 7"),
-    ("p { a = b *\n  ‸0x07 -> () => p(a) }", "0x07 is a number, and the address of a cell must be a name: write a name a there, and the condition a = 0x07"),
+    ("p { a = b *\n  ‸0x07 -> () => p(a) }", "0x07 is a number, and the address of a cell must be a name: write a name c there, and the condition c = 0x07"),
+    ("p { a -> c => p(a) | c = d * ‸7 -> b => p(a) }", "7 is a number, and the address of a cell must be a name: write a name e there, and the condition e = 7"),
+    ("p { a(b) => p(b) |\n  ‸7 -> x => p(x) | a = b => p(a) }", "7 is a number, and the address of a cell must be a name: write a name a there, and the condition a = 7"),
     ("p { ‸0 -> x => p(x) }", "0 is no address: the address of a cell must be a name"),
     ("p { ‸0x00 -> x => p(x) }", "0x00 is no address: the address of a cell must be a name"),
-    ("p { a = b => p(‸1) }", "1 cannot be an argument of a head: write a name a there, and the condition a = 1"),
-    ("p(a, ‸10) { }", "10 cannot be an argument of a head: write a name a there, and the condition a = 10"),
+    ("p { a = b => p(‸1) }", "1 cannot be an argument of a head: write a name c there, and the condition c = 1"),
+    ("p { emp => p(‸1, a, b) }", "1 cannot be an argument of a head: write a name c there, and the condition c = 1"),
+    ("p(a, ‸10) { }", "10 cannot be an argument of a head: write a name b there, and the condition b = 10"),
+    ("q() { } ; p(‸10) {", "10 cannot be an argument of a head: write a name a there, and the condition a = 10"),
     ("p { a -> b * ‸7 => p(a) }", "7 alone is no atom: write emp for nothing, or a condition such as a = 7"),
     ("p { ‸7(a) => p(a) }", "7 is a number and no name of a predicate: write another name"),
     ("p { emp => ‸7(a) }", "the head is missing before 7: write p(a, b) with the arguments of p"),
@@ -109,13 +117,23 @@ NUMBERS = [
     ("p { a = ‸4294967296 => p(a) }", "4294967296 is too large: a value is at most 4,294,967,295 (0xFFFFFFFF)"),
     ("p { a -> (b, ‸0x100000000) => p(a) }", "0x100000000 is too large: a value is at most 4,294,967,295 (0xFFFFFFFF)"),
     ("p { p(‸007) => p(a) }", "007 begins with 0: write 7, or 0x and the digits for base sixteen"),
-    ("p { a -> 7 ‸8 => p(a) }", "* or => is missing before 8: write * between atoms, and => before the head"),
+    ("p { a -> 7 ‸8 => p(a) }", f", * or => is missing before 8: {FIELDS}"),
+    ("p { a -> 0x51 ‸next * p(next) => p(a) }", f", * or => is missing before next: {FIELDS}"),
+    ("p { a -> b, 7 ‸nil => p(a) }", f", * or => is missing before nil: {FIELDS}"),
+    ("constants 7 ; p { a -> b ‸@1 => p(a) }", f", * or => is missing before @1: {FIELDS}"),
+    ("p { a -> 7 ‸8 != a => p(a) }", "* or => is missing before 8: write * between atoms, and => before the head"),
+    ("p { a -> 7 ‸b -> 8 => p(a) }", "* or => is missing before b: write * between atoms, and => before the head"),
+    ("p { a -> 7 ‸p(a) }", "* or => is missing before p: write * between atoms, and => before the head"),
+    ("p { a -> 7 ‸emp => p(a) }", "* or => is missing before emp: write * between atoms, and => before the head"),
+    ("p { a -> (7) ‸8 => p(a) }", "* or => is missing before 8: write * between atoms, and => before the head"),
     ("p { a -> 7‸, 8 = a => p(a) }", "write * and not , between atoms"),
     ("p { p(7 ‸8) => p(a) }", ", is missing before 8: write , between arguments and ) after the last"),
-    (f"p {{ {NINE} * a -> 8, 1, 0, ‸0x09 => p(a) }}", "this book has a ninth number, 0x09: a book has at most 8 different ones"),
-    (f"p {{ {NINE} => p(a) | p(1, ‸9) => p(a) }}", "this book has a ninth number, 9: a book has at most 8 different ones"),
-    (f"p {{ {NINE} => p(a) }} ; q {{ p(0x01) * p(0) => q() |\n  p(‸10) => q() }}", "this book has a ninth number, 10: a book has at most 8 different ones"),
-    ("constants 1, 1, 2, 3, 4, 5, 6 ; p { a = 7 * a = ‸8 => p(a) }", "this book has a ninth number, 8: a book has at most 8 different ones, with those listed"),
+    (f"p {{ {NINE} * a -> 8, 1, 0, ‸0x09 => p(a) }}", f"this book has a ninth number, 0x09: a book has at most 8 different ones; {WAY_OUT}"),
+    (f"p {{ {NINE} => p(a) | p(1, ‸9) => p(a) }}", f"this book has a ninth number, 9: a book has at most 8 different ones; {WAY_OUT}"),
+    (f"p {{ {NINE} => p(a) }} ; q {{ p(0x01) * p(0) => q() |\n  p(‸10) => q() }}", f"this book has a ninth number, 10: a book has at most 8 different ones; {WAY_OUT}"),
+    ("constants 1, 1, 2, 3, 4, 5, 6 ; p { a = 7 * a = ‸8 => p(a) }", f"8 would be a ninth constant: {LISTED}"),
+    ("constants 7,7,7,7,7,7,7,7 ; p { a -> ‸8 => p(a) }", f"8 would be a ninth constant: {LISTED}"),
+    ("constants 7, 0, nil, 0, 0, 0, 0, 0 ; p { a -> 7, ‸8 => p(a) }", f"8 would be a ninth constant: {LISTED}"),
     ("constants 1, 1, 1, 1, 1, 1, 1, 1, ‸1 ; p() { }", "this book has a ninth constant: a book has at most 8 constants"),
     ("constants ‸; p() { }", "a number is missing before \";\": write constants 7, 8 ; and then the blocks"),
     ("constants 7, ‸a ; p() { }", "a number is missing before a: write constants 7, 8 ; and then the blocks"),
@@ -125,24 +143,33 @@ NUMBERS = [
     ("constants 7, ‸4294967296 ; p() { }", "4294967296 is too large: a value is at most 4,294,967,295 (0xFFFFFFFF)"),
     ("constants 7 ;‸", "there is no block here: a book has at least one, such as p { emp => p() }"),
     ("p() { } ; ‸constants 7 ;", "a list of constants stands once and ahead of all blocks: move it there"),
-    ("constants 7 ; ‸constants 8 ; p() { }", "a list of constants stands once and ahead of all blocks: move it there"),
+    ("constants 7 ; ‸constants 8 ; p() { }", SECOND),
+    ("constants 7 ; p() { } ; ‸constants 8 ;", SECOND),
     ("p { a = ‸@1 => p(a) }", "@1 names no constant, since no constants are listed ahead of the blocks: write a number"),
     ("p { a = 7 * a = ‸@1 => p(a) }", "@1 names no constant, since no constants are listed ahead of the blocks: write a number"),
     ("constants 7 ; p { a = ‸@2 => p(a) }", "@2 names no constant, since 1 constant is listed ahead of the blocks: write @1"),
     ("constants 7, 7 ; p { a = 8 * a -> ‸@3 => p(a) }", "@3 names no constant, since 2 constants are listed ahead of the blocks: write @1 to @2"),
     ("constants 7, 7 ; p { p(‸@0) => p(a) }", "@0 names no constant, since 2 constants are listed ahead of the blocks: write @1 to @2"),
-    ("constants 7, 7 ; p { p(‸@01) => p(a) }", "@01 names no constant, since 2 constants are listed ahead of the blocks: write @1 to @2"),
-    ("constants 7 ; p { ‸@1 -> a => p(a) }", "@1 is a number, and the address of a cell must be a name: write a name a there, and the condition a = @1"),
+    ("constants 7, 7 ; p { p(‸@01) => p(a) }", "write the place in base ten without a 0 in front: @1"),
+    ("constants 7, 7 ; p { p(‸@0x2) => p(a) }", "write the place in base ten without a 0 in front: @2"),
+    ("constants 7, 7 ; p { p(‸@0X3) => p(a) }", "@0X3 names no constant, since 2 constants are listed ahead of the blocks: write @1 to @2"),
+    ("constants 7, 7 ; p { p(‸@00) => p(a) }", "@00 names no constant, since 2 constants are listed ahead of the blocks: write @1 to @2"),
+    ("p { p(‸@01) => p(a) }", "@01 names no constant, since no constants are listed ahead of the blocks: write a number"),
+    ("constants 7 ; p { ‸@1 -> a => p(a) }", "@1 is a number, and the address of a cell must be a name: write a name b there, and the condition b = @1"),
     ("constants 7 ; p { emp => p(‸@1) }", "@1 cannot be an argument of a head: write a name a there, and the condition a = @1"),
-    ("p { a = ‸@ => p(a) }", "the character @ (U+0040) has no meaning here: take it away; names have letters, digits, _ and '"),
+    ("p { a = ‸@ => p(a) }", "@ is followed by a place in a book's list of constants, as in @1"),
+    ("constants 7 ; p { a = ‸@ 1 => p(a) }", "@ is followed by a place in a book's list of constants, as in @1"),
+    ("constants 7 ; p { a = ‸@a => p(a) }", "@ is followed by a place in a book's list of constants, as in @1"),
+    ("constants 7 ; p { a = ‸@-1 => p(a) }", "@ is followed by a place in a book's list of constants, as in @1"),
 ]
 
 HEADS = [
     ("p { a = b ‸}", "=> is missing before }: write => and the head, such as p(a), after the atoms of a case"),
     ("p { a = b ‸| a = b => p(a) }", "=> is missing before |: write => and the head, such as p(a), after the atoms of a case"),
     ("p { a = b => ‸q(a) }", "a case in the block of p has p as its head: write p, or begin a block q { .. }"),
-    ("p { a = b => p(a, ‸a) }", "a stands twice in the head: write another name b there, and the condition a = b"),
-    ("p { a = b => p(‸nil) }", "nil cannot be an argument of a head: write a name a there, and the condition a = nil"),
+    ("p { a = b => p(a, ‸a) }", "a stands twice in the head: write another name c there, and the condition a = c"),
+    ("p { emp => p(b, ‸b) }", "b stands twice in the head: write another name a there, and the condition b = a"),
+    ("p { a = b => p(‸nil) }", "nil cannot be an argument of a head: write a name c there, and the condition c = nil"),
     ("p { a = b => p ‸}", "the arguments of p are missing: write p() where there are none"),
     ("p { a = b => ‸}", "the head is missing before }: write p(a, b) with the arguments of p"),
     ("p { a = b => p(a) ‸* a = c }", "nothing is joined to a head: write all atoms of the case before => p(..)"),
@@ -164,6 +191,10 @@ CALLS = [
 ]
 
 OTHER_TEXTS = [
+    ("‸7 { a -> 7 => p(a) }", "7 is a number and no name of a predicate: write another name"),
+    ("‸7(a) { }", "7 is a number and no name of a predicate: write another name"),
+    ("p() { } ; ‸7: 8", "7 is a number and no name of a predicate: write another name"),
+    ("‸@1 { emp => p() }", "@1 is a number and no name of a predicate: write another name"),
     ("‸10: 20", "this is a pool and no book: a book has blocks such as p { emp => p() }"),
     ("‸emp", "this is a pool and no book: a book has blocks such as p { emp => p() }"),
     ("‸p(10, 20)", "this is a question and no book: a book has blocks such as p { emp => p() }"),
@@ -172,7 +203,7 @@ OTHER_TEXTS = [
 
 FORM = [
     ("p { a -> (b ‸=> p(a) }", ") is missing before =>: write , between fields and ) after the last"),
-    ("p { a -> b ‸c => p(a) }", "* or => is missing before c: write * between atoms, and => before the head"),
+    ("p { a -> b ‸c => p(a) }", f", * or => is missing before c: {FIELDS}"),
     ("p { a -> ‸=> p(a) }", "a field is missing before =>: write a name, a number or nil; a cell without fields is a -> ()"),
     ("p { a -> ‸q(b) => p(a) }", "q begins another atom where a field is due: write a -> c * and then that atom"),
     ("p { a = ‸=> p(a) }", "a term is missing before =>: write a name, a number or nil"),
@@ -255,6 +286,10 @@ class BookMistakes(unittest.TestCase):
         parse_book(lines.rstrip("|\n ") + "}", "file")
         rows = [(lines + "  ‸emp => q()\n}", "this is the seventeenth case of the book: a book has at most 16 cases")]
         check_rows(self, rows, parse_book)
+
+    def test_a_name_where_all_letters_are_taken(self) -> None:
+        message = "7 is a number, and the address of a cell must be a name: write a name a' there, and the condition a' = 7"
+        check_rows(self, [(f"p {{ ‸7 -> {', '.join('abcdefghijklmnopqrstuvwxyz')}", message)], parse_book)
 
     def test_the_line_of_other_arguments(self) -> None:
         text = "# two\n\np(a, b) { } ;\n\np {\n  emp =>\n p(‸x) }"

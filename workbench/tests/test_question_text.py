@@ -19,6 +19,7 @@ MISTAKES = [
     ("‸ok(1)", "ok has no arguments, and this question has 1 value: write ok()"),
     ("ok‸", "( is missing after ok: write ok()"),
     ("ring(‸a)", "a is no value: a question has numbers and nil only"),
+    ("ring(‸@1)", "@1 stands in books only: write the number itself"),
     ("ring(10‸", ") is missing before the end: write , between values and ) after the last"),
     ("ring(10,‸)", "a value is missing before ): write a number or nil"),
     ("ring(‸,10)", "a value is missing before \",\": write a number or nil"),

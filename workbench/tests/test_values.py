@@ -25,6 +25,7 @@ class Values(unittest.TestCase):
             ("‸0x100000000", f"0x100000000 {most}"),
             ("‸99999999999", f"99999999999 {most}"),
             ("‸emp", "emp is no value: write a number or nil"),
+            ("‸@1", "@1 stands in books only: write the number itself"),
             ("‸(", "( is no value: write a number or nil"),
             ("‸", "the end is no value: write a number or nil"),
         ]
