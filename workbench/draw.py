@@ -131,14 +131,15 @@ class _Picture:
     # What fields and the question's values lead to.
 
     def _entries(self) -> list[str]:
-        """A label with an arrow for each value of the question that is not nil; values that are equal share one."""
+        """A label for each value of the question that is not nil, with an arrow unless it is a constant; values that are equal share one."""
         rows = []
         arguments = self._argument_names()
         for value in dict.fromkeys(filter(None, self.question.values)):
             here = [name for name, other in zip(arguments, self.question.values) if other == value]
             words = _label(" = ".join([*here, self.names.value(value)]))
             rows.append(f"  q{value} [label=<<I>{words}</I>>]")
-            rows.append(f"  {self._entry_arrow(value)}")
+            if not self._is_constant(value):
+                rows.append(f"  {self._entry_arrow(value)}")
         return rows
 
     def _entry_arrow(self, value: int) -> str:
@@ -159,12 +160,12 @@ class _Picture:
         return f"r{value}:head" if value in self.addresses else f"loose{value}"
 
     def _loose_values(self) -> list[str]:
-        """Values that are not nil and no record's address: one dashed box for each. A constant of the book that a field holds has none."""
-        values = {value for record in self.pool.records for value in record.fields if not self._is_constant(value)} | set(self.question.values)
+        """Values that are not nil and no record's address: one dashed box for each. A constant of the book has none."""
+        values = {value for record in self.pool.records for value in record.fields} | set(self.question.values)
         style = f'shape=box, style=dashed, color="{LOOSE}", fontcolor="{LOOSE}", margin="0.08,0.04", height=0.2'
         return [
             f'  loose{value} [label=<{_label(self.names.value(value))}<BR/><FONT POINT-SIZE="9">no record</FONT>>, {style}]'
-            for value in sorted(values - self.addresses - {0})
+            for value in sorted(values - self.addresses - {0, *self.names.book.constants})
         ]
 
     def _is_constant(self, value: int) -> bool:

@@ -84,16 +84,27 @@ class Said(unittest.TestCase):
         self.assertNotIn("not reached", dot_text(answered("part-none")))
 
     def test_numbers_of_the_book(self):
-        """They stand in their fields, and no arrow leads from there; one that the question names has a box for the question's arrow."""
+        """They stand in their fields and beside the question's arguments, and no arrow leads from there, unless a record is there."""
         text = dot_text(answered("types"))
         self.assertIn('<TD PORT="f1" BGCOLOR="white">0x51</TD>', text)
         self.assertNotIn("loose", text)
         self.assertNotIn("f1:", text)
         book = parse_book("p { a -> 7, 8, 0, 20 => p(a, b) }", "book")
         text = dot_text(ask(asked(book, parse_pool("10: 7, 9, nil, 20\n20: 8, 7", "pool"), Question(0, (10, 8)))))
-        self.assertEqual([value for value in (7, 8, 9, 20) if f"loose{value} [" in text], [8, 9])
+        self.assertEqual([value for value in (7, 8, 9, 20) if f"loose{value} [" in text], [9])
+        self.assertIn("q8 [label=<<I>b = 8</I>>]", text)
+        self.assertNotIn("q8 ->", text)
         self.assertEqual([port for port in range(1, 5) if f"r10:f{port}:" in text], [2, 3, 4])
         self.assertNotIn("r20:f", text)
+
+    def test_a_number_of_the_book_that_the_question_names(self):
+        """As in fields; where it is a record's address, the question's arrow leads there."""
+        book = parse_book("p { a -> 7, 8 => p(a, b) }", "book")
+        text = dot_text(ask(asked(book, parse_pool("10: 7, 7", "pool"), Question(0, (10, 8)))))
+        self.assertNotIn("loose", text)
+        self.assertIn(">no hints<", text)
+        text = dot_text(ask(asked(book, parse_pool("10: 7, nil\n8: 7, nil", "pool"), Question(0, (10, 8)))))
+        self.assertIn("q8 -> r8:head", text)
 
     def test_no_record_and_no_hints(self):
         self.assertIn("the pool has no record", dot_text(ask(asked(H, Pool(()), Question(0, (5, 5))))))
