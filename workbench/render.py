@@ -26,6 +26,7 @@ NO_PART_HINTS = (
     "fields hold no record in two places, apart from records that point to one another.",
 )
 WITH_NUMBERS = "Numbers that stand in the book, such as type codes, are passed over where they name no record."
+CODES_NOT_COMPARED = "No hint compares type codes: see whether each record has the code that its place asks for."
 NO_FIND = "the question holds without any record, which says nothing about the pool; a shape that needs a record tells more"
 LARGER = "larger parts may fit as well; whether all records do is asked without --part"
 WALK_YES = "The walk gives no unfolding to show or to save. To have one, ask the engine:"
@@ -150,7 +151,7 @@ def _hint_rows(answer: Answer) -> list[str]:
     some_part, names = answer.asked.some_part, Names(answer.asked)
     numbers = [WITH_NUMBERS] * bool(names.book.constants)
     if not answer.hints:
-        return [*(NO_PART_HINTS if some_part else NO_HINTS), *numbers]
+        return [*(NO_PART_HINTS if some_part else NO_HINTS), *numbers, *[CODES_NOT_COMPARED] * len(numbers)]
     ahead = PART_HINTS_AHEAD if some_part else WALK_HINTS_AHEAD if answer.asked.by_walk else HINTS_AHEAD
     return [ahead, *numbers, *(f"  {row}" for row in hint_sentences(answer.hints, names))]
 

@@ -108,8 +108,10 @@ class DoesNotFit(unittest.TestCase):
     def test_numbers_of_the_book(self):
         book = parse_book("p { a -> 7, 8 => p(a) }", "book")
         passed = "Numbers that stand in the book, such as type codes, are passed over where they name no record.\n"
-        said = text(book, Pool((Record(10, (7, 7)),)), Question(0, (10,)))
-        self.assertRegex(said, f"^does not fit\nNo hints: .*\n.*\n{passed}$")
+        codes = "No hint compares type codes: see whether each record has the code that its place asks for.\n"
+        for some_part, verdict in ((False, "does not fit"), (True, "no part fits, not even the empty one")):
+            said = answer_text(ask(asked(book, Pool((Record(10, (7, 7)),)), Question(0, (10,)), some_part)))
+            self.assertRegex(said, f"^{verdict}\nNo hints: .*\n.*\n{passed}{codes}$")
         said = text(book, Pool((Record(10, (7, 9)),)), Question(0, (10,)))
         self.assertRegex(said, f"^does not fit\nHints .*\n{passed}  field 2 of 10 holds 9, which is not nil and names no record\n$")
 
