@@ -8,7 +8,7 @@ from workbench.lexer import RESERVED, TERMS, Token, Tokens, shorten, shown
 from workbench.mistake import Mistake
 from workbench.model import MOST_ARGUMENTS, MOST_CALLS, MOST_CELLS, MOST_CONDITIONS, MOST_CONSTANTS, MOST_FIELDS, MOST_VARIABLES
 
-# Begins the list of constants. It is not reserved: a predicate of this name is followed by { or (.
+# Begins the list of constants. It is not reserved: a predicate of this name is followed by {, or by ( and no number.
 CONSTANTS = "constants"
 LATE_LIST = "a list of constants stands once and ahead of all blocks: move it there"
 SECOND_LIST = "there is a list of constants already: write one list with the constants of both, ahead of all blocks"
@@ -59,7 +59,8 @@ def parse_blocks(tokens: Tokens) -> tuple[list[Token], list[Block]]:
 
 
 def _lists_constants(tokens: Tokens) -> bool:
-    return tokens.peek().text == CONSTANTS and tokens.peek(1).kind not in ("{", "(")
+    first, second, third = (tokens.peek(ahead) for ahead in range(3))
+    return first.text == CONSTANTS and second.kind != "{" and (second.kind != "(" or third.kind == "number")
 
 
 def _constants(tokens: Tokens) -> list[Token]:
@@ -68,7 +69,7 @@ def _constants(tokens: Tokens) -> list[Token]:
     while True:
         token = tokens.next()
         if token.kind != "number" and token.text != "nil":
-            raise tokens.mistake(f"a number is missing before {shown(token)}: write {CONSTANTS} 7, 8 ; and then the blocks", token)
+            raise tokens.mistake(_no_constant(token, tokens.peek()), token)
         _limit(tokens, listed, MOST_CONSTANTS, token, "constant", "constants", "a book")
         listed.append(token)
         if tokens.take(";"):
@@ -77,6 +78,14 @@ def _constants(tokens: Tokens) -> list[Token]:
             after = tokens.peek()
             missing = "," if after.kind == "number" else ";"
             raise tokens.mistake(f"{missing} is missing before {shown(after)}: write {CONSTANTS} 7, 8 ; and then the blocks", after)
+
+
+def _no_constant(token: Token, after: Token) -> str:
+    if token.kind == "name" and after.kind not in ("{", "("):
+        return "constants have no names: write the number in the cases"
+    if token.kind == "(":
+        return f"a list of constants has no parentheses: write {CONSTANTS} 7, 8 ; and then the blocks"
+    return f"a number is missing before {shown(token)}: write {CONSTANTS} 7, 8 ; and then the blocks"
 
 
 def _after_block(tokens: Tokens) -> Mistake:
@@ -105,7 +114,7 @@ def _block(tokens: Tokens) -> Block:
     p = shorten(name.text)
     arguments = _arguments(tokens, None) if tokens.peek().kind == "(" else None
     if not tokens.take("{"):
-        raise tokens.mistake(f"{{ is missing after {p}: write {p} {{ atoms => {p}(a, b) }}", tokens.peek())
+        raise _no_cases(tokens, p, name)
     if tokens.take("}"):
         if arguments is None:
             raise tokens.mistake(f"this block has no case: write a case, or {p}(a, b) {{ }} with the arguments that {p} has", name)
@@ -116,6 +125,13 @@ def _block(tokens: Tokens) -> Block:
     if not tokens.take("}"):
         raise _after_head(tokens, p, name)
     return Block(name, arguments, cases)
+
+
+def _no_cases(tokens: Tokens, p: str, name: Token) -> Mistake:
+    token = tokens.peek()
+    if token.kind == "number" and tokens.peek(-1) == name and p.lower() in ("constant", "constants", "const", "consts"):
+        return tokens.mistake(f"{p} begins no list of constants: write {CONSTANTS}, as in {CONSTANTS} {shown(token)} ;", name)
+    return tokens.mistake(f"{{ is missing after {p}: write {p} {{ atoms => {p}(a, b) }}", token)
 
 
 def _after_head(tokens: Tokens, p: str, name: Token) -> Mistake:
@@ -155,6 +171,8 @@ def _listed(tokens: Tokens, case: Case) -> None:
     tokens.next()
     while True:
         token = tokens.next()
+        if token.kind in ("number", "place"):
+            raise tokens.mistake(f"{shown(token)} is a number, which needs no exists: list names only", token)
         if token.kind != "name":
             raise tokens.mistake(f"a name is missing before {shown(token)}: write exists c, d: and then the atoms", token)
         _refuse_no_variable(tokens, token)

@@ -5,7 +5,7 @@ from dataclasses import dataclass
 
 from workbench.lexer import Tokens, shown
 from workbench.model import Pool
-from workbench.values import read_value, write_value
+from workbench.values import base_sixteen, read_value, write_value
 
 NONE = "emp"
 
@@ -50,7 +50,7 @@ def _address(tokens: Tokens, pool: Pool, before: list[int]) -> int:
     token = tokens.next()
     if token.kind != "number":
         wrong = f"{shown(token)} is no address" if token.kind == "name" else f"an address is missing before {shown(token)}"
-        raise tokens.mistake(f"{wrong}: write addresses such as 10,20, or emp alone", token)
+        raise tokens.mistake(f"{wrong}: write addresses such as 10,20, or emp alone{base_sixteen(token)}", token)
     address = read_value(tokens, token)
     if address not in {record.address for record in pool.records}:
         raise tokens.mistake(f"the pool has no record at {shown(token)}: {_known(pool)}", token)

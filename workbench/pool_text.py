@@ -3,7 +3,7 @@
 from workbench.lexer import TERMS, Token, Tokens, shown
 from workbench.mistake import Mistake
 from workbench.model import MOST_FIELDS, MOST_RECORDS, Pool, Record
-from workbench.values import read_value, spellings_of, write_value
+from workbench.values import base_sixteen, read_value, spellings_of, write_value
 
 SUCH_AS = "a pool has lines such as 10: 20, or the word emp for no record"
 
@@ -50,7 +50,7 @@ def _record(tokens: Tokens, read: list[tuple[int, Token]]) -> Record:
     if place.text == "emp":
         raise tokens.mistake("emp stands alone, for a pool with no record: take it away", place)
     if place.kind == "name" and place.text != "nil":
-        raise tokens.mistake(f"{shown(place)} is no address: {SUCH_AS}; names stand in books only", place)
+        raise tokens.mistake(f"{shown(place)} is no address: {SUCH_AS}; names stand in books only{base_sixteen(place)}", place)
     if place.kind not in TERMS:
         raise tokens.mistake(f"{shown(place)} begins no record: {SUCH_AS}", place)
     address = read_value(tokens, place)

@@ -3,7 +3,7 @@
 from workbench.lexer import TERMS, Token, Tokens, shorten, shown
 from workbench.model import Book, Question
 from workbench.wording import count, suggestion
-from workbench.values import read_value, spellings_of, write_value
+from workbench.values import base_sixteen, read_value, spellings_of, write_value
 
 
 def parse_question(text: str, book: Book, source: str = "question") -> Question:
@@ -29,7 +29,7 @@ def _values(tokens: Tokens, name: Token, due: int) -> list[tuple[int, Token]]:
     while not closed:
         token = tokens.next()
         if token.kind == "name" and token.text != "nil":
-            raise tokens.mistake(f"{shown(token)} is no value: a question has numbers and nil only", token)
+            raise tokens.mistake(f"{shown(token)} is no value: a question has numbers and nil only{base_sixteen(token)}", token)
         if token.kind not in TERMS:
             raise tokens.mistake(f"a value is missing before {shown(token)}: write a number or nil", token)
         read.append((read_value(tokens, token), token))
@@ -38,12 +38,18 @@ def _values(tokens: Tokens, name: Token, due: int) -> list[tuple[int, Token]]:
             raise tokens.unseparated("values")
     if len(read) != due:
         message = f"{shown(name)} has {count(due, 'argument')}, and this question has {count(len(read), 'value')}"
-        raise tokens.mistake(f"{message}: write {_form(name.text, due)}", name)
+        given = [shown(token) for _, token in read]
+        form = _call(name.text, given + [".."] * (due - len(given))) if 0 < len(given) < due else _form(name.text, due)
+        raise tokens.mistake(f"{message}: write {form}", name)
     return read
 
 
 def _form(name: str, arguments: int) -> str:
-    return f"{shorten(name)}({', '.join(('10', '20', '30', '40')[:arguments])})"
+    return _call(name, ["10", "20", "30", "40"][:arguments])
+
+
+def _call(name: str, values: list[str]) -> str:
+    return f"{shorten(name)}({', '.join(values)})"
 
 
 def _example(book: Book) -> str:

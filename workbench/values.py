@@ -1,5 +1,7 @@
 """Values as text: numbers in base ten or after 0x in base sixteen, and nil for 0."""
 
+import re
+
 from workbench.lexer import Token, Tokens, shown
 from workbench.model import MOST_VALUE
 
@@ -7,6 +9,7 @@ Spellings = tuple[tuple[int, str], ...]
 
 # A number with more digits is above any value; Python would refuse to read one of thousands of digits.
 MOST_DIGITS = len(str(MOST_VALUE))
+SIXTEEN = re.compile(r"[a-fA-F][0-9a-fA-F]{,7}")
 
 
 def read_value(tokens: Tokens, token: Token) -> int:
@@ -15,11 +18,17 @@ def read_value(tokens: Tokens, token: Token) -> int:
     if token.kind == "place":
         raise tokens.mistake(f"{shown(token)} stands in books only: write the number itself", token)
     if token.kind != "number":
-        raise tokens.mistake(f"{shown(token)} is no value: write a number or nil", token)
+        raise tokens.mistake(f"{shown(token)} is no value: write a number or nil{base_sixteen(token)}", token)
     value = _number(token.text)
     if value > MOST_VALUE:
         raise tokens.mistake(f"{shown(token)} is too large: a value is at most {MOST_VALUE:,} (0xFFFFFFFF)", token)
     return value
+
+
+def base_sixteen(token: Token) -> str:
+    """What to add about a name that looks like a number in base sixteen: one with a digit, or of the full length."""
+    looks = SIXTEEN.fullmatch(token.text) and (len(token.text) == 8 or not token.text.isalpha())
+    return f"; for base sixteen write 0x{token.text}" if looks else ""
 
 
 def _number(text: str) -> int:

@@ -55,6 +55,7 @@ class Texts(unittest.TestCase):
                 ("‸(10)", f"an address is missing before (: {such_as} alone"),
                 ("‸,10", f'an address is missing before ",": {such_as} alone'),
                 ("10,‸", f"an address is missing before the end: {such_as} alone"),
+                ("10,‸A0", f"A0 is no address: {such_as} alone; for base sixteen write 0xA0"),
                 ("10,‸emp", f"emp is no address: {such_as} alone"),
                 ("10 ‸300", "300 cannot follow: write addresses with , between them, or emp alone"),
                 ("emp‸,10", '"," cannot follow: write addresses with , between them, or emp alone'),

@@ -22,6 +22,12 @@ MISTAKES = [
     ("‸segment(10, 10)", "this is a question and no pool: a pool has lines such as 10: 20, or the word emp for no record"),
     ("‸a: 10", "a is no address: a pool has lines such as 10: 20, or the word emp for no record; names stand in books only"),
     ("10: ‸a", "a is no value: write a number or nil"),
+    ("10: ‸FFFF0010", "FFFF0010 is no value: write a number or nil; for base sixteen write 0xFFFF0010"),
+    (
+        "‸FFFF0010: 10",
+        "FFFF0010 is no address: a pool has lines such as 10: 20, or the word emp for no record; names stand in books only;"
+        " for base sixteen write 0xFFFF0010",
+    ),
     ("10: ‸-1", "- is not used here: write a whole number of 0 or more, without sign or point"),
     ("10: 1‸.5", ". is not used here: write a whole number of 0 or more, without sign or point"),
     ("10 ‸-> 20", "write : after the address 10, and not ->"),
