@@ -2,7 +2,7 @@
 
 from dataclasses import dataclass
 
-from workbench.byte_reader import ByteReader, number_bytes
+from workbench.byte_reader import ByteReader, value_bytes
 from workbench.mistake import Mistake
 from workbench.model import (
     EQUAL, FIRST_CONSTANT, MOST_ARGUMENTS, MOST_CALLS, MOST_CELLS, MOST_CONDITIONS, MOST_CONSTANTS, MOST_FIELDS, MOST_PREDICATES, MOST_RULES,
@@ -11,9 +11,9 @@ from workbench.model import (
 from workbench.wording import count
 
 
-def encode_book(book: Book) -> bytes:
+def encode_book(book: Book, nil: int = 0) -> bytes:
     arguments = [predicate.arguments for predicate in book.predicates]
-    found = bytes([len(arguments), *arguments, len(book.constants)]) + b"".join(map(number_bytes, book.constants)) + bytes([len(book.rules)])
+    found = bytes([len(arguments), *arguments, len(book.constants)]) + value_bytes(book.constants, nil) + bytes([len(book.rules)])
     return found + b"".join(_encode_rule(rule, len(rule.variables) - arguments[rule.predicate]) for rule in book.rules)
 
 
@@ -56,7 +56,7 @@ def _book(data: bytes, source: str) -> Book:
     arguments = []
     for _ in range(reader.count("the number of predicates", MOST_PREDICATES, 1)):
         arguments.append(reader.count("a number of arguments", MOST_ARGUMENTS))
-    constants = [reader.number("a constant") for _ in range(reader.count("the number of constants", MOST_CONSTANTS))]
+    constants = [reader.value("a constant") for _ in range(reader.count("the number of constants", MOST_CONSTANTS))]
     rules = [_rule(reader, arguments, len(constants)) for _ in range(reader.count("the number of rules", MOST_RULES))]
     reader.finish()
     return Book(tuple(Predicate(f"p{number}", count) for number, count in enumerate(arguments)), tuple(rules), tuple(constants))

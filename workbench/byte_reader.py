@@ -1,6 +1,9 @@
 """Bytes read front to back. A fault is a mistake that names the byte, counted from 0, and what is due there."""
 
+from collections.abc import Iterable
+
 from workbench.mistake import Mistake
+from workbench.model import END_MARK
 from workbench.wording import count
 
 
@@ -32,6 +35,11 @@ class ByteReader:
         """Four bytes, the lowest first."""
         return sum(self.byte(due) << (8 * place) for place in range(4))
 
+    def value(self, due: str) -> int:
+        """A number whose end mark is nil."""
+        found = self.number(due)
+        return 0 if found == END_MARK else found
+
     def finish(self) -> None:
         more = len(self.data) - self.at
         if more:
@@ -40,3 +48,8 @@ class ByteReader:
 
 def number_bytes(value: int) -> bytes:
     return value.to_bytes(4, "little")
+
+
+def value_bytes(values: Iterable[int], nil: int) -> bytes:
+    """Values one after the other; `nil` is 0 or the end mark."""
+    return b"".join(number_bytes(value or nil) for value in values)

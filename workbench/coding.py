@@ -1,11 +1,11 @@
 """From text to bytes and back, by the kind of what is in the file."""
 
 from workbench.bench_bytes import decode_bench, encode_bench
-from workbench.book_bytes import explain_book
+from workbench.book_bytes import encode_book, explain_book
 from workbench.book_text import write_book
 from workbench.mistake import Mistake
 from workbench.model import Book
-from workbench.pool_bytes import explain_pool
+from workbench.pool_bytes import encode_pool, explain_pool
 from workbench.pool_text import write_pool
 from workbench.question_bytes import encode_question, explain_question
 from workbench.question_text import parse_question, write_question
@@ -19,29 +19,28 @@ def hex_text(data: bytes) -> str:
     return "".join(row.hex(" ").upper() + "\n" for row in rows)
 
 
-def well_formed_book(path: str) -> tuple[Book, bytes]:
+def well_formed_book(path: str) -> Book:
     book, data, name = read_book(path)
-    return book or explain_book(data, name), data
+    return book or explain_book(data, name)
 
 
-def encode_book_file(path: str) -> bytes:
-    return well_formed_book(path)[1]
+# What encodes takes how nil is written, 0 or the end mark, last. Bytes are encoded anew too, so that they have one of both.
+def encode_book_file(path: str, nil: int = 0) -> bytes:
+    return encode_book(well_formed_book(path), nil)
 
 
-def encode_pool_file(path: str) -> bytes:
+def encode_pool_file(path: str, nil: int = 0) -> bytes:
     pool, data, name = read_pool(path)
-    if pool is None:
-        explain_pool(data, name)
-    return data
+    return encode_pool(pool or explain_pool(data, name), nil)
 
 
-def encode_question_text(book_path: str, text: str) -> bytes:
-    return encode_question(parse_question(text, well_formed_book(book_path)[0]))
+def encode_question_text(book_path: str, text: str, nil: int = 0) -> bytes:
+    return encode_question(parse_question(text, well_formed_book(book_path)), nil)
 
 
-def encode_bench_files(book_path: str, pool_path: str, text: str) -> bytes:
-    book, data = well_formed_book(book_path)
-    return encode_bench(data, encode_pool_file(pool_path), encode_question(parse_question(text, book)))
+def encode_bench_files(book_path: str, pool_path: str, text: str, nil: int = 0) -> bytes:
+    book = well_formed_book(book_path)
+    return encode_bench(encode_book(book, nil), encode_pool_file(pool_path, nil), encode_question(parse_question(text, book), nil))
 
 
 def _bytes_of(path: str) -> bytes:
@@ -60,7 +59,7 @@ def decode_pool_file(path: str) -> str:
 
 
 def decode_question_file(book_path: str, path: str) -> str:
-    book = well_formed_book(book_path)[0]
+    book = well_formed_book(book_path)
     return _line(write_question(explain_question(_bytes_of(path), book, source_name(path)), book))
 
 
@@ -68,7 +67,7 @@ def decode_bench_file(path: str) -> str:
     """Three parts under a comment each. An empty book stands for the house book, as in the bench program."""
     name = source_name(path)
     book_bytes, pool_bytes, question_bytes = decode_bench(_bytes_of(path))
-    book = explain_book(book_bytes, name) if book_bytes else well_formed_book(HOUSE)[0]
+    book = explain_book(book_bytes, name) if book_bytes else well_formed_book(HOUSE)
     pool = explain_pool(pool_bytes, name)
     question = explain_question(question_bytes, book, name)
     title = "# book" if book_bytes else "# book: none is given, which stands for the house book"

@@ -14,7 +14,9 @@ MOST_CELLS = 4
 MOST_FIELDS = 4
 MOST_CALLS = 3
 MOST_RECORDS = 16
-MOST_VALUE = 2**32 - 1
+MOST_VALUE = 2**32 - 2
+# Nil as the current controllers write it, in fields, values of a question and constants; older ones write 0.
+END_MARK = 2**32 - 1
 
 FIRST_CONSTANT = 128
 NIL = 255

@@ -1,14 +1,14 @@
 """Pools as bytes: snapshots."""
 
-from workbench.byte_reader import ByteReader, number_bytes
+from workbench.byte_reader import ByteReader, number_bytes, value_bytes
 from workbench.mistake import Mistake
-from workbench.model import MOST_FIELDS, MOST_RECORDS, Pool, Record
+from workbench.model import END_MARK, MOST_FIELDS, MOST_RECORDS, Pool, Record
 
 
-def encode_pool(pool: Pool) -> bytes:
+def encode_pool(pool: Pool, nil: int = 0) -> bytes:
     found = bytes([len(pool.records)])
     for record in pool.records:
-        found += number_bytes(record.address) + bytes([len(record.fields)]) + b"".join(map(number_bytes, record.fields))
+        found += number_bytes(record.address) + bytes([len(record.fields)]) + value_bytes(record.fields, nil)
     return found
 
 
@@ -35,7 +35,9 @@ def _record(reader: ByteReader, before: int) -> Record:
     address = reader.number("an address")
     if address == 0:
         raise reader.mistake("the address is 0, which is nil and never an address", place)
+    if address == END_MARK:
+        raise reader.mistake("the address is FFFFFFFF, which is the end mark, so nil and never an address", place)
     if address <= before:
         raise reader.mistake(f"the address {address} follows {before}, and addresses must ascend", place)
     fields = reader.count("the number of fields", MOST_FIELDS)
-    return Record(address, tuple(reader.number("a field") for _ in range(fields)))
+    return Record(address, tuple(reader.value("a field") for _ in range(fields)))

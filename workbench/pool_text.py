@@ -55,7 +55,8 @@ def _record(tokens: Tokens, read: list[tuple[int, Token]]) -> Record:
         raise tokens.mistake(f"{shown(place)} begins no record: {SUCH_AS}", place)
     address = read_value(tokens, place)
     if address == 0:
-        raise tokens.mistake(f"{shown(place)} is no address: 0 is nil, where no record can be", place)
+        what = "0 is" if place.text == "nil" or not place.text.strip("0xX") else "it is the end mark, so"
+        raise tokens.mistake(f"{shown(place)} is no address: {what} nil, where no record can be", place)
     read.append((address, place))
     _colon(tokens, place)
     return Record(address, tuple(_fields(tokens, place.line, read)))

@@ -1,13 +1,13 @@
 """Questions as bytes."""
 
-from workbench.byte_reader import ByteReader, number_bytes
+from workbench.byte_reader import ByteReader, value_bytes
 from workbench.mistake import Mistake
 from workbench.model import Book, Question
 from workbench.wording import count
 
 
-def encode_question(question: Question) -> bytes:
-    return bytes([question.predicate, len(question.values)]) + b"".join(map(number_bytes, question.values))
+def encode_question(question: Question, nil: int = 0) -> bytes:
+    return bytes([question.predicate, len(question.values)]) + value_bytes(question.values, nil)
 
 
 def decode_question(data: bytes, book: Book) -> Question | None:
@@ -29,6 +29,6 @@ def explain_question(data: bytes, book: Book, source: str = "") -> Question:
     if found != due:
         name = book.predicates[predicate].name
         raise reader.mistake(f"{found} stands for the number of values, and {name} has {count(due, 'argument')}", 1)
-    values = tuple(reader.number("a value") for _ in range(due))
+    values = tuple(reader.value("a value") for _ in range(due))
     reader.finish()
     return Question(predicate, values)

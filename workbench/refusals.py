@@ -9,7 +9,7 @@ SENTENCES = {
     4: "the book goes on after its last rule: look for a count that announces less than there is",
     5: "the snapshot ends too early: look for a lost end, or for a count that announces more than there is",
     6: "the pool is too large: at most 16 records, each with at most 4 fields",
-    7: "an address is nil, or the addresses do not ascend: sort the records by address, and give no two the same",
+    7: "an address is nil (0 or FFFFFFFF), or the addresses do not ascend: sort the records by address, and give no two the same",
     8: "the snapshot goes on after its last record: look for a count that announces less than there is",
     9: "the question is not one about this book: name one of its predicates, with as many values as that has arguments and nothing more",
     10: "the memory lent does not fit together: lend a table of 1 to 65,535 words and an unfolding space of three times as many",

@@ -1,9 +1,9 @@
-"""Values as text: numbers in base ten or after 0x in base sixteen, and nil for 0."""
+"""Values as text: numbers in base ten or after 0x in base sixteen, and nil for 0 and for the end mark."""
 
 import re
 
 from workbench.lexer import Token, Tokens, shown
-from workbench.model import MOST_VALUE
+from workbench.model import END_MARK, MOST_VALUE
 
 Spellings = tuple[tuple[int, str], ...]
 
@@ -20,8 +20,10 @@ def read_value(tokens: Tokens, token: Token) -> int:
     if token.kind != "number":
         raise tokens.mistake(f"{shown(token)} is no value: write a number or nil{base_sixteen(token)}", token)
     value = _number(token.text)
+    if value == END_MARK:
+        return 0
     if value > MOST_VALUE:
-        raise tokens.mistake(f"{shown(token)} is too large: a value is at most {MOST_VALUE:,} (0xFFFFFFFF)", token)
+        raise tokens.mistake(f"{shown(token)} is too large: a value is at most {MOST_VALUE:,} (0x{MOST_VALUE:X})", token)
     return value
 
 
@@ -34,7 +36,7 @@ def base_sixteen(token: Token) -> str:
 def _number(text: str) -> int:
     sixteen = text[:2] in ("0x", "0X")
     digits = (text[2:] if sixteen else text).lstrip("0")
-    return MOST_VALUE + 1 if len(digits) > MOST_DIGITS else int(digits or "0", 16 if sixteen else 10)
+    return END_MARK + 1 if len(digits) > MOST_DIGITS else int(digits or "0", 16 if sixteen else 10)
 
 
 def spellings_of(read: list[tuple[int, Token]]) -> Spellings:

@@ -5,7 +5,9 @@ use crate::desk;
 use crate::input::{from_hex, Input};
 use crate::judge::{self, Expected, Table};
 use crate::lent::{self, Manner, Sizes, AROUND};
+use crate::nil;
 use crate::parts;
+use crate::twins::{Asked, Replies};
 use crate::unfoldings::words_of;
 use crate::walk;
 use reference::api;
@@ -28,11 +30,29 @@ pub fn run(words: &[&str]) -> Option<()> {
         around: AROUND,
         dirt: dirt.unwrap_or(u64::MAX),
     };
-    match sections.next() {
+    let unfolding = sections.next();
+    match &unfolding {
         None => decide(&input, sizes, manner),
-        Some(unfolding) => check(&input, part, &unfolding, manner),
+        Some(unfolding) => check(&input, part, unfolding, manner),
     }
+    let asked = Asked {
+        sizes,
+        manner,
+        words: words_of(&unfolding.unwrap_or_default()),
+        part: part.unwrap_or(0),
+    };
+    spellings(&input, &asked);
     Some(())
+}
+
+/// The proved program with every nil as 0, and as it is written here.
+fn spellings(input: &Input, asked: &Asked) {
+    let zeros = Replies::of(&nil::spelt(input, 0), asked);
+    println!("both spellings of nil");
+    match zeros.same(&Replies::of(input, asked)) {
+        Ok(()) => println!("  proved    the same as with 0"),
+        Err(wrong) => println!("  wrong     {wrong}"),
+    }
 }
 
 fn sizes<'a, 'b>(words: &'a [&'b str]) -> Option<(Sizes, &'a [&'b str])> {

@@ -10,6 +10,7 @@ use crate::patience;
 use crate::random::Dice;
 use crate::sizes;
 use crate::tally::Tally;
+use crate::twins::{self, Replies};
 use crate::unfoldings::{bytes_of, lines_of, words_of, Line};
 use crate::walk;
 use reference::api::{self, Outcome, PartReply, Reply, DESK_BYTES};
@@ -266,6 +267,7 @@ impl Comparer {
         let (every, returned) = (parts::every_record(input), answer.part.lent()[0]);
         self.tally.parts.saw(reply, &parts, every, returned);
         self.tally.constants.saw(input, reply, &parts);
+        self.tally.nils.saw(input, reply);
         Some(Both { whole, parts, part })
     }
 
@@ -350,7 +352,7 @@ impl Comparer {
     }
 
     /// Dirt of any kind.
-    fn manner(&mut self) -> Manner {
+    pub fn manner(&mut self) -> Manner {
         Manner {
             around: self.around,
             dirt: self.dice.word(),
@@ -442,6 +444,24 @@ impl Comparer {
             let call = call.part(part).lent(Sizes::OWN, manner.dirt);
             self.wrong(call, &wrong);
         }
+    }
+
+    /// The proved program on another spelling of an input that it gave all this
+    /// back for.
+    pub fn spelt(&mut self, input: &Input, asked: &twins::Asked, zeros: &Replies) {
+        let lent = exact(input);
+        let given = Replies::of(&lent, asked);
+        match zeros.same(&given) {
+            Ok(()) => self.tally.nils.compared(given.refusal(), given.fits()),
+            Err(wrong) => {
+                let unfolding = bytes_of(&asked.words);
+                let call = call("both spellings of nil", input).with(&unfolding);
+                let call = call.part(Some(asked.part));
+                self.wrong(call.lent(asked.sizes, asked.manner.dirt), &wrong);
+            }
+        }
+        self.unchanged(input, &lent);
+        self.counted();
     }
 
     /// An input whose reply was kept, since the reference may need long for it,

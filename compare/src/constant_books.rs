@@ -2,6 +2,7 @@
 
 use crate::books;
 use crate::input::{Book, Rule, FIRST_CONSTANT, NIL};
+use crate::nil::{END_MARK, LARGEST};
 
 /// Constants by their places in the list.
 const A: u8 = FIRST_CONSTANT;
@@ -88,6 +89,19 @@ fn zero() -> Book {
     Book::new(&[1, 0], rules).with_constants(&[0, 4])
 }
 
+/// Nil by both of its spellings, which are never told apart.
+fn both_spellings() -> Book {
+    let rules = vec![
+        Rule::new(0, 0).equal(0, A).equal(B, A),
+        Rule::new(0, 0).unequal(A, B).cell(0, &[B]),
+        Rule::new(0, 0).unequal(NIL, B).equal(0, B),
+        Rule::new(0, 1).cell(0, &[1]).call(1, &[1, A]),
+        Rule::new(1, 0).equal(0, B).equal(1, B),
+        Rule::new(1, 0).cell(0, &[B]).call(0, &[1]),
+    ];
+    Book::new(&[1, 2], rules).with_constants(&[0, END_MARK])
+}
+
 /// Records at known addresses: one, a segment between two, a ring.
 pub fn anchored() -> Book {
     let mut rules = vec![
@@ -103,7 +117,7 @@ pub fn anchored() -> Book {
 
 /// The segment, with constants that no rule names.
 fn unnamed() -> Book {
-    books::segment().with_constants(&[1, 2, u32::MAX, 0, 3, 3])
+    books::segment().with_constants(&[1, 2, LARGEST, 0, 3, 3])
 }
 
 /// A bound variable that only a spare number can meet, and the first spare ones
@@ -134,7 +148,7 @@ fn none_of_eight() -> Book {
         Rule::new(1, 0),
         Rule::new(1, 1).cell(0, &[A + 7]).call(1, &[]),
     ];
-    let constants = [1, 10, 4, 15, 2, u32::MAX, 20, 0];
+    let constants = [1, 10, 4, 15, 2, LARGEST, 20, 0];
     Book::new(&[1, 0], rules).with_constants(&constants)
 }
 
@@ -152,6 +166,7 @@ pub fn small() -> Vec<Book> {
         every_place(),
         equal_ones(),
         zero(),
+        both_spellings(),
         anchored(),
         unnamed(),
         no_spares_of_these(),
@@ -177,13 +192,13 @@ pub fn in_turn() -> Book {
     Book::new(&[2], rules).with_constants(&[4, 15])
 }
 
-/// A list to an end mark.
+/// A list to an end of its own, which is not nil.
 pub fn end_mark() -> Book {
     let rules = vec![
         Rule::new(0, 0).equal(A, 0),
         Rule::new(0, 1).unequal(A, 0).cell(0, &[1]).call(0, &[1]),
     ];
-    Book::new(&[1], rules).with_constants(&[u32::MAX])
+    Book::new(&[1], rules).with_constants(&[LARGEST])
 }
 
 /// So many records: the codes count down. The last rule is for every other code.

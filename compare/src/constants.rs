@@ -7,6 +7,7 @@ use crate::generate::{self, Size};
 use crate::grow;
 use crate::input::{Book, Heap, Input, Query, MOST_FIELDS, MOST_RECORDS};
 use crate::lent::Sizes;
+use crate::nil::{self, END_MARK, LARGEST};
 use crate::pools;
 use crate::random::Dice;
 use crate::unfoldings::{self, Line};
@@ -46,7 +47,7 @@ fn every_number(comparer: &mut Comparer, dice: &mut Dice, book: &Book) {
                 if comparer.takes_turn() {
                     let mut book = book.clone();
                     book.constants[at] = number;
-                    let input = Input::new(&book, &heap, &query);
+                    let input = nil::input(dice, &book, &heap, &query);
                     unfoldings::decide_and_check(comparer, dice, &input, 1);
                 }
             }
@@ -55,14 +56,14 @@ fn every_number(comparer: &mut Comparer, dice: &mut Dice, book: &Book) {
 }
 
 /// Nil, the constants, the values of pool and question, the first numbers that
-/// are none of these, and the largest.
+/// are none of these, the mark and the largest.
 fn numbers(book: &Book, heap: &Heap, query: &Query) -> Vec<u32> {
     let mut numbers = heap.values();
     numbers.extend(book.constants.iter().chain(&query.values));
     let spares = (1..).filter(|number| !numbers.contains(number));
     let spares: Vec<u32> = spares.take(3).collect();
     numbers.extend(spares);
-    numbers.extend([u32::MAX, u32::MAX - 1]);
+    numbers.extend([END_MARK, LARGEST]);
     numbers.sort();
     numbers.dedup();
     numbers
@@ -83,7 +84,7 @@ fn apart(dice: &mut Dice) -> Apart {
     let step = dice.pick(&[1, 2, 1_000, 30_000_000]);
     let start = match dice.below(3) {
         0 => 1,
-        1 => u32::MAX - step * (MOST_APART as u32 - 1),
+        1 => LARGEST - step * (MOST_APART as u32 - 1),
         _ => dice.between(2, 100) as u32,
     };
     let mut values: Vec<u32> = (0..MOST_APART as u32)

@@ -12,7 +12,7 @@ use crate::walk;
 use reference::api;
 
 #[derive(Clone, Copy)]
-enum Asked {
+pub enum Asked {
     Whole,
     SomePart,
     Walk,
@@ -20,24 +20,24 @@ enum Asked {
     Check,
 }
 
-const ALL: &[Asked] = &[Asked::Whole, Asked::SomePart, Asked::Walk, Asked::Check];
+pub const ALL: &[Asked] = &[Asked::Whole, Asked::SomePart, Asked::Walk, Asked::Check];
 
 /// Where the other input does not fit.
-const NO_CHECK: &[Asked] = &[Asked::Whole, Asked::SomePart, Asked::Walk];
+pub const NO_CHECK: &[Asked] = &[Asked::Whole, Asked::SomePart, Asked::Walk];
 
 /// Where the walk has the same verdict, or is free to say no.
 const NO_WALK: &[Asked] = &[Asked::Whole, Asked::SomePart, Asked::Check];
-const ENGINE: &[Asked] = &[Asked::Whole, Asked::SomePart];
+pub const ENGINE: &[Asked] = &[Asked::Whole, Asked::SomePart];
 
-struct Misread {
-    name: &'static str,
-    input: Input,
+pub struct Misread {
+    pub name: &'static str,
+    pub input: Input,
     /// To which the altered answer is right.
-    other: Input,
-    asked: &'static [Asked],
+    pub other: Input,
+    pub asked: &'static [Asked],
 }
 
-const SIZES: Sizes = Sizes::of(300);
+pub const SIZES: Sizes = Sizes::of(300);
 
 /// Records 10 and 20, with these codes, and a list of both.
 fn of_codes(book: Book, codes: [u32; 2], question: &[u32]) -> Input {
@@ -47,7 +47,7 @@ fn of_codes(book: Book, codes: [u32; 2], question: &[u32]) -> Input {
 }
 
 /// The list of records with one code: that of the book, and that of the pool.
-fn typed(constants: &[u32], code: u32) -> Input {
+pub fn typed(constants: &[u32], code: u32) -> Input {
     let book = constant_books::plain_typed().with_constants(constants);
     of_codes(book, [code; 2], &[10])
 }
@@ -59,7 +59,7 @@ fn in_turn(constants: [u32; 2], codes: [u32; 2]) -> Input {
 }
 
 /// Both records of a ring, with constants that no rule names.
-fn circle(constants: &[u32]) -> Input {
+pub fn circle(constants: &[u32]) -> Input {
     let heap = Heap::default().with(10, &[20]).with(20, &[10]);
     let book = books::segment().with_constants(constants);
     Input::new(&book, &heap, &Query::new(0, &[10, 10]))
@@ -148,12 +148,16 @@ fn cases() -> Vec<Misread> {
 
 /// What was missed, and how many answers were altered.
 pub fn missed() -> (Vec<&'static str>, usize) {
-    let cases = cases();
+    missed_of(&cases())
+}
+
+/// The same of any cases.
+pub fn missed_of(cases: &[Misread]) -> (Vec<&'static str>, usize) {
     let mut missed = Vec::new();
-    for case in &cases {
+    for case in cases {
         for &asked in case.asked {
             if !right(asked, case, &case.input) {
-                missed.push("an answer with constants as it is");
+                missed.push("an answer to a case as it is");
             }
             if right(asked, case, &case.other) {
                 missed.push(case.name);

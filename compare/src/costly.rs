@@ -1,6 +1,7 @@
 //! Inputs made to cost time.
 
 use crate::input::*;
+use crate::nil::LARGEST;
 use crate::random::Dice;
 use crate::shapes;
 
@@ -298,7 +299,7 @@ fn largest_book() -> Input {
 }
 
 /// The constants that are in none of the pools here.
-const ODD: [u32; MOST_CONSTANTS] = [51, 151, 1_051, 2_051, 4_051, 8_051, 9_051, u32::MAX];
+const ODD: [u32; MOST_CONSTANTS] = [51, 151, 1_051, 2_051, 4_051, 8_051, 9_051, LARGEST];
 
 fn constant(place: usize) -> u8 {
     FIRST_CONSTANT + place as u8

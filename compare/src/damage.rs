@@ -3,6 +3,7 @@
 
 use crate::compare::Comparer;
 use crate::input::{Book, Input, FIRST_CONSTANT, MOST_CONSTANTS, NIL};
+use crate::nil::{self, END_MARK, LARGEST};
 use crate::random::Dice;
 use crate::unfoldings;
 use reference::api::{BENCH_BYTES, DESK_BYTES};
@@ -15,8 +16,8 @@ const BYTES: [u8; 20] = [
 /// Random bytes are tried up to this length.
 const LONGEST: usize = 4_200;
 
-/// Every byte of the three sections replaced, every section cut short and drawn out;
-/// each to both entries.
+/// Every byte of the three sections replaced, and every number of four bytes;
+/// every section cut short and drawn out; each to both entries.
 pub fn every_byte(comparer: &mut Comparer, dice: &mut Dice, input: &Input) {
     let lines = comparer.decide(input).unfoldings.pop();
     let unfolding = unfoldings::bytes(&lines.unwrap_or_default());
@@ -26,6 +27,15 @@ pub fn every_byte(comparer: &mut Comparer, dice: &mut Dice, input: &Input) {
             comparer.check(input, &unfolding);
         }
     };
+    for place in nil::places(input) {
+        for number in [0, END_MARK, LARGEST] {
+            if number != place.number(input) {
+                let mut other = input.clone();
+                place.write(&mut other, number);
+                both(&other);
+            }
+        }
+    }
     for section in 0..3 {
         let whole = input.sections()[section].clone();
         for (at, &old) in whole.iter().enumerate() {

@@ -2,6 +2,7 @@
 //! up to the limits.
 
 use crate::input::*;
+use crate::nil::LARGEST;
 use crate::random::Dice;
 use crate::shapes;
 
@@ -62,7 +63,7 @@ fn constants(dice: &mut Dice, size: Size) -> Vec<u32> {
 pub fn constant(dice: &mut Dice) -> u32 {
     match dice.below(10) {
         0 => 0,
-        1 => u32::MAX,
+        1 => LARGEST,
         2 => dice.value(),
         3 => dice.below(60) as u32,
         _ => dice.between(1, 7) as u32,

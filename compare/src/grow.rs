@@ -5,6 +5,7 @@
 //! left to luck, so now and then the pool does not fit after all.
 
 use crate::input::{Book, Heap, Query, Rule, FIRST_CONSTANT, MOST_RECORDS, NIL};
+use crate::nil::{as_read, END_MARK};
 use crate::random::Dice;
 use crate::shapes;
 
@@ -35,7 +36,7 @@ pub fn grow(dice: &mut Dice, book: &Book, wanted: usize) -> (Heap, Query) {
 /// Nil and the constants, each number once.
 fn numbers(book: &Book) -> Vec<u32> {
     let mut numbers = vec![0];
-    for &constant in &book.constants {
+    for constant in book.constants.iter().map(|&constant| as_read(constant)) {
         if !numbers.contains(&constant) {
             numbers.push(constant);
         }
@@ -65,7 +66,7 @@ impl<'a> Growth<'a> {
     /// The node of a constant.
     fn known(&self, number: u32) -> usize {
         let mut numbers = self.numbers.iter();
-        let node = numbers.position(|&other| other == number);
+        let node = numbers.position(|&other| other == as_read(number));
         node.expect("every constant has one")
     }
 
@@ -183,7 +184,7 @@ impl<'a> Growth<'a> {
                 if dice.chance(10) {
                     place = dice.pick(&self.numbers);
                 }
-                while place == 0 || taken.contains(&place) {
+                while place == 0 || place == END_MARK || taken.contains(&place) {
                     place = place.wrapping_add(1);
                 }
                 taken.push(place);

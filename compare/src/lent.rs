@@ -136,7 +136,7 @@ impl Sizes {
 }
 
 /// How it is lent.
-#[derive(Clone, Copy, Debug)]
+#[derive(Clone, Copy, Debug, PartialEq, Eq)]
 pub struct Manner {
     /// Words before and after each block. Without any, a memory checker sees a
     /// read beyond the block; with some, every run sees a write.
@@ -166,7 +166,7 @@ impl Unit for u16 {
 }
 
 /// Lent words, or shorter units, between others.
-#[derive(Clone)]
+#[derive(Clone, PartialEq, Eq)]
 pub struct Block<T = u64> {
     all: Vec<T>,
     manner: Manner,
@@ -239,7 +239,7 @@ fn border<T: Unit>(dirt: u64, place: usize) -> T {
 }
 
 /// All that one call of the engine gave back.
-#[derive(Clone)]
+#[derive(Clone, PartialEq, Eq)]
 pub struct Answer {
     pub refusal: u64,
     /// Verdict, facts, rounds and lines.
@@ -311,7 +311,7 @@ pub fn decide_on(
 }
 
 /// All that one call of the check gave back.
-#[derive(Clone)]
+#[derive(Clone, PartialEq, Eq)]
 pub struct Checked {
     pub refusal: u64,
     pub taken: Block,

@@ -7,6 +7,7 @@ use crate::constant_books;
 use crate::generate;
 use crate::input::{Book, Heap, Input, Query, Record, MOST_RECORDS};
 use crate::nearly;
+use crate::nil::{self, LARGEST};
 use crate::random::Dice;
 use crate::shapes::{self, branched, chained, first, places, record, Shape};
 use crate::strangers;
@@ -21,16 +22,17 @@ pub fn run(comparer: &mut Comparer, dice: &mut Dice) {
             false => dice.below(MOST_RECORDS + 1),
         };
         let shape = shape(dice, size);
-        comparer.decide_known(&input(&shape), true);
+        let input = input(dice, &shape);
+        comparer.decide_known(&input, true);
         around(comparer, dice, &shape);
     }
 }
 
-fn input(shape: &Shape) -> Input {
-    Input::new(&shape.book, &shape.heap, &shape.query)
+fn input(dice: &mut Dice, shape: &Shape) -> Input {
+    nil::input(dice, &shape.book, &shape.heap, &shape.query)
 }
 
-fn shape(dice: &mut Dice, size: usize) -> Shape {
+pub fn shape(dice: &mut Dice, size: usize) -> Shape {
     match dice.below(13) {
         0 => segment(dice, size),
         1 => of_list(dice, size, books::plain_list()),
@@ -54,12 +56,12 @@ fn shape(dice: &mut Dice, size: usize) -> Shape {
 pub fn around(comparer: &mut Comparer, dice: &mut Dice, shape: &Shape) {
     let Shape { book, heap, query } = shape;
     for heap in damaged(dice, shape) {
-        comparer.decide(&Input::new(book, &heap, query));
+        comparer.decide(&nil::input(dice, book, &heap, query));
     }
     let other = generate::query(dice, book, heap);
-    comparer.decide(&Input::new(book, heap, &other));
+    comparer.decide(&nil::any_input(dice, book, heap, &other));
     for shape in nearly::misses(dice, shape) {
-        comparer.decide(&input(&shape));
+        comparer.decide(&input(dice, &shape));
     }
 }
 
@@ -162,10 +164,10 @@ pub fn typed(dice: &mut Dice, size: usize) -> Shape {
     shape
 }
 
-/// The mark is no address.
+/// The end is no address.
 fn end_mark(dice: &mut Dice, size: usize) -> Shape {
     let places = places(dice, size);
-    let mark = [u32::MAX, 0, 777_777].into_iter();
+    let mark = [LARGEST, 0, 777_777].into_iter();
     let mark = mark
         .filter(|mark| !places.contains(mark))
         .collect::<Vec<u32>>();

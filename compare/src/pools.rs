@@ -10,11 +10,13 @@ use crate::grow;
 use crate::hostile;
 use crate::input::{Book, Heap, Input, Query, MOST_RECORDS};
 use crate::mutate;
+use crate::nil;
 use crate::plain;
 use crate::random::Dice;
 use crate::shapes::{self, Shape};
 use crate::sizes;
 use crate::small;
+use crate::spellings;
 use crate::split;
 use crate::strangers;
 use crate::unfoldings::{self, Line};
@@ -63,7 +65,7 @@ const FIXED: [Pool; 6] = [
 ];
 
 /// Those that may be repeated with other numbers.
-const RANDOM: [Pool; 9] = [
+const RANDOM: [Pool; 10] = [
     Pool {
         name: "usual shapes",
         program_share: 20,
@@ -109,6 +111,11 @@ const RANDOM: [Pool; 9] = [
         program_share: 150,
         run: constants::run,
     },
+    Pool {
+        name: "both spellings of nil",
+        program_share: 500,
+        run: spellings::run,
+    },
 ];
 
 impl Pool {
@@ -145,14 +152,14 @@ pub fn long(comparer: &mut Comparer, seed: u64, limit: Limit) {
 }
 
 /// One fitting input for each hand-written book and shape of a few records.
-fn small_inputs(dice: &mut Dice) -> Vec<Input> {
+pub fn small_inputs(dice: &mut Dice) -> Vec<Input> {
     let mut inputs = Vec::new();
     for shape in shapes::all(dice, 3) {
-        inputs.push(Input::new(&shape.book, &shape.heap, &shape.query));
+        inputs.push(nil::input(dice, &shape.book, &shape.heap, &shape.query));
     }
     for book in books::small() {
         let (heap, query) = grow::grow(dice, &book, 2);
-        inputs.push(Input::new(&book, &heap, &query));
+        inputs.push(nil::input(dice, &book, &heap, &query));
     }
     inputs
 }
@@ -163,7 +170,8 @@ fn damaged_bytes(comparer: &mut Comparer, dice: &mut Dice) {
     }
     for book in constant_books::plain() {
         let (heap, query) = grow::grow(dice, &book, 2);
-        damage::every_byte(comparer, dice, &Input::new(&book, &heap, &query));
+        let input = nil::input(dice, &book, &heap, &query);
+        damage::every_byte(comparer, dice, &input);
     }
     for book in [constant_books::small(), constant_books::plain()].concat() {
         let (heap, query) = grow::grow(dice, &book, 2);
@@ -174,7 +182,7 @@ fn damaged_bytes(comparer: &mut Comparer, dice: &mut Dice) {
 
 fn odd_lengths(comparer: &mut Comparer, dice: &mut Dice) {
     let shape = shapes::ring(dice, 2);
-    let input = Input::new(&shape.book, &shape.heap, &shape.query);
+    let input = nil::input(dice, &shape.book, &shape.heap, &shape.query);
     damage::every_length(comparer, dice, &input);
 }
 
@@ -198,14 +206,14 @@ fn lent_memory(comparer: &mut Comparer, dice: &mut Dice) {
         for shape in shapes::all(dice, size) {
             let broken = shapes::broken(dice, &shape.heap);
             let heaps = broken.into_iter().chain([shape.heap]);
-            inputs.extend(heaps.map(|heap| Input::new(&shape.book, &heap, &shape.query)));
+            inputs.extend(heaps.map(|heap| nil::input(dice, &shape.book, &heap, &shape.query)));
         }
     }
     for input in inputs {
         sizes::every(comparer, &input);
     }
     let shape = shapes::tree(dice, 7);
-    let input = Input::new(&shape.book, &shape.heap, &shape.query);
+    let input = nil::input(dice, &shape.book, &shape.heap, &shape.query);
     for faulty in damage::one_of_each_fault(&input) {
         sizes::every_refused(comparer, &faulty, 0);
     }
@@ -220,14 +228,14 @@ fn usual_shapes(comparer: &mut Comparer, dice: &mut Dice) {
             if !comparer.takes_turn() {
                 continue;
             }
-            let input = Input::new(&shape.book, &shape.heap, &shape.query);
+            let input = nil::input(dice, &shape.book, &shape.heap, &shape.query);
             for lines in comparer.decide_known(&input, true).unfoldings {
                 unfoldings::check_lines(comparer, dice, &input, &lines, 6);
                 forged(comparer, dice, &shape.book, &input, &lines, 10);
             }
             for _ in 0..3 {
                 if let Some(heap) = shapes::broken(dice, &shape.heap) {
-                    let input = Input::new(&shape.book, &heap, &shape.query);
+                    let input = nil::input(dice, &shape.book, &heap, &shape.query);
                     unfoldings::decide_and_check(comparer, dice, &input, 2);
                 }
             }
@@ -235,7 +243,7 @@ fn usual_shapes(comparer: &mut Comparer, dice: &mut Dice) {
     }
 }
 
-fn sizes(dice: &mut Dice) -> (Size, usize) {
+pub fn sizes(dice: &mut Dice) -> (Size, usize) {
     match dice.weighted(&[60, 30, 10]) {
         0 => (Size::Small, dice.below(5)),
         1 => (Size::Middle, dice.below(9)),
@@ -255,10 +263,10 @@ fn random_pools(comparer: &mut Comparer, dice: &mut Dice) {
             generate::meet(dice, &mut book, &heap);
         }
         let query = generate::query(dice, &book, &heap);
-        let input = Input::new(&book, &heap, &query);
+        let input = nil::any_input(dice, &book, &heap, &query);
         unfoldings::decide_and_check(comparer, dice, &input, 3);
         if let Some((part, query)) = fitting_part(dice, &book, &heap, &query) {
-            let input = Input::new(&book, &part, &query);
+            let input = nil::input(dice, &book, &part, &query);
             for lines in comparer.decide_known(&input, true).unfoldings {
                 unfoldings::check_lines(comparer, dice, &input, &lines, 4);
                 forged(comparer, dice, &book, &input, &lines, 2);
@@ -269,7 +277,7 @@ fn random_pools(comparer: &mut Comparer, dice: &mut Dice) {
 }
 
 /// A book: mostly a random one.
-fn any_book(dice: &mut Dice, size: Size) -> Book {
+pub fn any_book(dice: &mut Dice, size: Size) -> Book {
     if dice.chance(85) {
         return generate::book(dice, size);
     }
@@ -310,7 +318,7 @@ fn near_misses(comparer: &mut Comparer, dice: &mut Dice) {
         let (heap, query) = grow::grow(dice, &weaker, records);
         for _ in 0..3 {
             if let Some((part, query)) = fitting_part(dice, &weaker, &heap, &query) {
-                let input = Input::new(&book, &part, &query);
+                let input = nil::input(dice, &book, &part, &query);
                 unfoldings::decide_and_check(comparer, dice, &input, 1);
             }
         }
@@ -366,12 +374,12 @@ fn grown_pools(comparer: &mut Comparer, dice: &mut Dice) {
         let (size, records) = sizes(dice);
         let book = any_book(dice, size);
         let (heap, query) = grow::grow(dice, &book, records);
-        let input = Input::new(&book, &heap, &query);
+        let input = nil::input(dice, &book, &heap, &query);
         for lines in unfoldings::decide_and_check(comparer, dice, &input, 6) {
             forged(comparer, dice, &book, &input, &lines, 4);
         }
         if let Some(heap) = shapes::broken(dice, &heap) {
-            let input = Input::new(&book, &heap, &query);
+            let input = nil::any_input(dice, &book, &heap, &query);
             unfoldings::decide_and_check(comparer, dice, &input, 3);
         }
     }
@@ -381,7 +389,7 @@ fn grown_pools(comparer: &mut Comparer, dice: &mut Dice) {
 fn damaged_unfoldings(comparer: &mut Comparer, dice: &mut Dice) {
     for size in [0, 1, 2, 3, 16] {
         for shape in shapes::all(dice, size) {
-            let input = Input::new(&shape.book, &shape.heap, &shape.query);
+            let input = nil::input(dice, &shape.book, &shape.heap, &shape.query);
             every_damage(comparer, dice, &input);
         }
     }
@@ -395,7 +403,8 @@ fn damaged_unfoldings(comparer: &mut Comparer, dice: &mut Dice) {
         let (size, records) = sizes(dice);
         let book = any_book(dice, size);
         let (heap, query) = grow::grow(dice, &book, records);
-        every_damage(comparer, dice, &Input::new(&book, &heap, &query));
+        let input = nil::input(dice, &book, &heap, &query);
+        every_damage(comparer, dice, &input);
     }
 }
 
@@ -448,5 +457,5 @@ fn part_of_pool(comparer: &mut Comparer, dice: &mut Dice, shape: &Shape) {
 fn among_strangers(dice: &mut Dice, shape: &Shape, more: usize) -> (Input, u16) {
     let weights = generate::field_weights(&shape.book);
     let (heap, part) = strangers::add(dice, &shape.heap, more, &weights);
-    (Input::new(&shape.book, &heap, &shape.query), part)
+    (nil::input(dice, &shape.book, &heap, &shape.query), part)
 }

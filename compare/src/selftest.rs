@@ -6,6 +6,7 @@ use crate::constants_test;
 use crate::input::{Heap, Input, Query};
 use crate::judge::{self, Expected, Table};
 use crate::lent::{self, About, Answer, Block, Checked, Manner, Sizes, AROUND};
+use crate::nil_test;
 use crate::parts;
 use crate::unfoldings::{lines_of_words, with_copies, Line};
 use crate::walk_test;
@@ -412,6 +413,8 @@ pub fn run() -> bool {
     missed.extend(walk_test::missed());
     let (by_constants, of_constants) = constants_test::missed();
     missed.extend(by_constants);
+    let (by_nil, of_nil) = nil_test::missed();
+    missed.extend(by_nil);
     let by_hand = [books::small(), books::plain()].concat();
     if by_hand
         .iter()
@@ -423,7 +426,7 @@ pub fn run() -> bool {
         println!("self-test: not told apart: {name}");
     }
     let altered = ALTERED.len() + PART_ALTERED.len() + CHECK_ALTERED.len() + walk_test::COUNT;
-    let altered = altered + of_constants;
+    let altered = altered + of_constants + of_nil;
     println!(
         "self-test: {altered} altered answers, {} mistakes",
         missed.len()

@@ -3,6 +3,7 @@
 use crate::books;
 use crate::constant_books;
 use crate::input::{Book, Heap, Query, Record, MOST_FIELDS};
+use crate::nil::{as_read, END_MARK, LARGEST};
 use crate::random::Dice;
 
 #[derive(Clone)]
@@ -43,8 +44,8 @@ pub fn places(dice: &mut Dice, count: usize) -> Vec<u32> {
     let mut places: Vec<u32> = match dice.below(4) {
         0 => (1..=count as u32).collect(),
         1 => ascending(start).collect(),
-        // Up to the largest value there is.
-        2 => ascending(u32::MAX - (count as u32).saturating_sub(1) * step).collect(),
+        // Up to the largest there may be.
+        2 => ascending(LARGEST - (count as u32).saturating_sub(1) * step).collect(),
         // The low eight bits keep them apart.
         _ => (0..count as u32)
             .map(|index| (dice.value() << 8) + index + 1)
@@ -260,7 +261,7 @@ pub fn anything(dice: &mut Dice, size: usize) -> Shape {
 pub fn code(dice: &mut Dice, places: &[u32]) -> u32 {
     match dice.below(6) {
         0 => 0,
-        1 => u32::MAX,
+        1 => LARGEST,
         2 => dice.value(),
         3 if !places.is_empty() => dice.pick(places),
         _ => dice.between(1, 5) as u32,
@@ -329,12 +330,13 @@ pub fn broken(dice: &mut Dice, heap: &Heap) -> Option<Heap> {
     }
     let chosen = dice.below(pointers.len());
     let before = *pointers[chosen];
-    let after = match dice.below(6) {
+    let after = match dice.below(7) {
         0 => 0,
-        1 => dice.value(),
-        2 => before.wrapping_add(1),
+        1 => END_MARK,
+        2 => dice.value(),
+        3 => before.wrapping_add(1),
         _ => dice.pick(&addresses),
     };
     *pointers[chosen] = after;
-    (after != before).then_some(heap)
+    (as_read(after) != as_read(before)).then_some(heap)
 }

@@ -4,7 +4,8 @@
 
 use crate::books;
 use crate::compare::Comparer;
-use crate::input::{Book, Heap, Input, Query};
+use crate::input::{Book, Heap, Query};
+use crate::nil::{self, LARGEST};
 use crate::random::Dice;
 use crate::unfoldings;
 
@@ -13,7 +14,7 @@ use crate::unfoldings;
 const PLACES: [[u32; 4]; 3] = [
     [1, 2, 3, 4],
     [10, 20, 30, 15],
-    [0x7FFF_FFFF, 0x8000_0000, 0xFFFF_FFFF, 0xFFFF_FFFE],
+    [0x7FFF_FFFF, 0x8000_0000, LARGEST, LARGEST - 1],
 ];
 
 /// With more arguments than this, a few questions stand for all.
@@ -84,7 +85,8 @@ fn every_question(
                 continue;
             }
             let chosen: Vec<u32> = choice.iter().map(|&index| values[index]).collect();
-            let input = Input::new(book, heap, &Query::new(predicate as u8, &chosen));
+            let query = Query::new(predicate as u8, &chosen);
+            let input = nil::input(dice, book, heap, &query);
             unfoldings::decide_and_check(comparer, dice, &input, 1);
         }
     }

@@ -6,6 +6,7 @@ use crate::compare::Comparer;
 use crate::generate;
 use crate::grow;
 use crate::input::*;
+use crate::nil;
 use crate::plain;
 use crate::pools;
 use crate::random::Dice;
@@ -27,10 +28,11 @@ pub fn run(comparer: &mut Comparer, dice: &mut Dice) {
         };
         let fitting = pools::fitting_part(dice, &book, &heap, &query);
         let shape = Shape { book, heap, query };
-        comparer.decide(&Input::new(&shape.book, &shape.heap, &shape.query));
+        comparer.decide(&nil::input(dice, &shape.book, &shape.heap, &shape.query));
         plain::around(comparer, dice, &shape);
         if let Some((heap, query)) = fitting {
-            comparer.decide_known(&Input::new(&shape.book, &heap, &query), true);
+            let input = nil::input(dice, &shape.book, &heap, &query);
+            comparer.decide_known(&input, true);
         }
     }
 }

@@ -1,6 +1,7 @@
 //! Further records about a pool that fits, so that it is only a part.
 
 use crate::input::{Heap, Record};
+use crate::nil::END_MARK;
 use crate::random::Dice;
 
 /// The pool with so many more records, which point at anything, and the part
@@ -12,7 +13,7 @@ pub fn add(dice: &mut Dice, heap: &Heap, more: usize, field_weights: &[usize; 5]
     let mut records = heap.records.clone();
     while taken.len() < own.len() + more {
         let address = address(dice, &values);
-        if address == 0 || taken.contains(&address) {
+        if address == 0 || address == END_MARK || taken.contains(&address) {
             continue;
         }
         taken.push(address);

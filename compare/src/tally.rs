@@ -1,9 +1,10 @@
 //! What the inputs were, for a reader who wants to know what was tried.
 
+use crate::constant_use::{ConstantUse, Fault};
 use crate::differences::call;
 use crate::input::{Input, MOST_RECORDS};
 use crate::lent::Sizes;
-use crate::marks::{Fault, Marks};
+use crate::nil_tally::Nils;
 use crate::walk::Expected;
 use reference::api::{self, Reply};
 use reference::domain::Domain;
@@ -24,6 +25,7 @@ pub struct Tally {
     pub parts: Parts,
     pub walks: Walks,
     pub constants: Constants,
+    pub nils: Nils,
     pub proved: Slowest,
     pub walk: Slowest,
     pub reference: Slowest,
@@ -307,23 +309,23 @@ fn kept(input: &Input) -> usize {
 impl Constants {
     /// A call that gave what it should, and the parts that fit.
     pub fn saw(&mut self, input: &Input, reply: Reply, parts: &[u16]) {
-        let marks = Marks::of(&input.book);
-        match (reply.refusal, marks.fault) {
+        let used = ConstantUse::of(&input.book);
+        match (reply.refusal, used.fault) {
             (1, Some(Fault::Cut)) => self.cut += 1,
             (2, Some(Fault::Count)) => self.ninth += 1,
             (3, Some(Fault::Term)) => self.beyond += 1,
             (3, Some(Fault::Address)) => self.address += 1,
             _ => {}
         }
-        if reply.refusal != 0 || marks.constants.is_empty() {
+        if reply.refusal != 0 || used.constants.is_empty() {
             return;
         }
-        match (marks.named.is_empty(), reply.verdict) {
+        match (used.named.is_empty(), reply.verdict) {
             (true, _) => self.unnamed += 1,
             (false, 1) => self.fits += 1,
             _ => self.does_not += 1,
         }
-        self.twice += marks.named_twice() as u64;
+        self.twice += used.named_twice() as u64;
         let kept = kept(input);
         self.many_kept += (kept > KEPT) as u64;
         self.most_kept += (kept == KEPT_WITH_CONSTANTS) as u64;
@@ -332,22 +334,22 @@ impl Constants {
 
     /// An unfolding that the check takes for the whole pool.
     pub fn took(&mut self, input: &Input) {
-        let listed = !Marks::of(&input.book).constants.is_empty();
+        let listed = !ConstantUse::of(&input.book).constants.is_empty();
         self.many_kept_taken += (listed && kept(input) > KEPT) as u64;
     }
 
     pub fn walked(&mut self, input: &Input, expected: &Expected, yes: bool) {
-        let marks = Marks::of(&input.book);
-        if expected.refusal() > 0 || marks.named.is_empty() {
+        let used = ConstantUse::of(&input.book);
+        if expected.refusal() > 0 || used.named.is_empty() {
             return;
         }
-        let constants = marks.constants.len();
+        let constants = used.constants.len();
         if expected.plain {
             self.plain_yes += yes as u64;
             self.plain_no += !yes as u64;
             let same = with_constants(&input.book, &vec![1; constants]);
             self.plain_apart += (api::plain_book(&same) == Ok(false)) as u64;
-        } else if marks.named_twice() {
+        } else if used.named_twice() {
             let others: Vec<u32> = (1..=constants as u32).collect();
             let apart = with_constants(&input.book, &others);
             self.not_apart += (api::plain_book(&apart) == Ok(true)) as u64;
@@ -424,7 +426,8 @@ impl Tally {
             .chain(self.parts.checked_kinds())
             .chain(self.walks.kinds())
             .chain(self.walks.refusals())
-            .chain(self.constants.kinds());
+            .chain(self.constants.kinds())
+            .chain(self.nils.kinds());
         let few = kinds.filter(|&(_, count)| count < enough);
         few.map(|(kind, _)| kind).collect()
     }
@@ -447,6 +450,7 @@ impl Tally {
         self.parts.print();
         self.walks.print();
         self.constants.print();
+        println!("nil: {}", list(&self.nils.kinds()));
         self.proved.print("proved");
         self.walk.print("walk");
         self.reference.print("reference");

@@ -91,7 +91,7 @@ pub struct Rule {
 pub struct RuleSet {
     /// Number of arguments of each predicate.
     pub arities: Vec<usize>,
-    /// As the book lists them: there may be equal ones, and 0.
+    /// In the book's order, as values: there may be equal ones, and 0.
     pub constants: Vec<u32>,
     pub rules: Vec<Rule>,
 }
@@ -134,6 +134,19 @@ const MAX_FIELDS: usize = 4;
 const FIRST_CONSTANT_BYTE: usize = 128;
 const NIL_BYTE: usize = 255;
 
+/// What controllers of the current line write at the end of a chain.
+const END_MARK: u32 = 0xFFFF_FFFF;
+
+/// The value that a field, question value or constant has: the end mark is nil,
+/// as 0 is. This is the only place that turns it; nothing read still has it.
+fn value_of(number: u32) -> u32 {
+    if number == END_MARK {
+        0
+    } else {
+        number
+    }
+}
+
 /// Bytes with a place in them. `ends` is the refusal for a missing byte,
 /// the only thing in which the book's and the snapshot's reader differ.
 struct Reader<'a> {
@@ -158,13 +171,18 @@ impl Reader<'_> {
         Ok(count)
     }
 
-    /// A four-byte number, lowest byte first.
-    fn value(&mut self) -> Result<u32, Refusal> {
-        let mut value = 0;
+    /// A four-byte number as it stands, lowest byte first.
+    fn number(&mut self) -> Result<u32, Refusal> {
+        let mut number = 0;
         for shift in [0, 8, 16, 24] {
-            value |= (self.byte()? as u32) << shift;
+            number |= (self.byte()? as u32) << shift;
         }
-        Ok(value)
+        Ok(number)
+    }
+
+    /// A four-byte number that is a value, so not an address.
+    fn value(&mut self) -> Result<u32, Refusal> {
+        self.number().map(value_of)
     }
 
     fn at_end(&self) -> bool {
@@ -289,10 +307,11 @@ pub fn read_heap(bytes: &[u8]) -> Result<Heap, Refusal> {
     let count = reader.count(0, MAX_RECORDS, Refusal::SnapshotCount)?;
     let mut records: Vec<Record> = Vec::new();
     for _ in 0..count {
-        let address = reader.value()?;
-        // Nil is no address, so 0 stands before the first one.
+        let address = reader.number()?;
+        // Nil is no address, however it is written. So 0 stands before the
+        // first one, and the end mark is refused though it is above all others.
         let before = records.last().map_or(0, |record| record.address);
-        if address <= before {
+        if address <= before || address == END_MARK {
             return Err(Refusal::SnapshotAddress);
         }
         let mut fields = Vec::new();
@@ -322,7 +341,7 @@ pub fn read_query(bytes: &[u8], rules: &RuleSet) -> Result<Query, Refusal> {
     }
     let values = bytes[2..]
         .chunks(4)
-        .map(|four| u32::from_le_bytes([four[0], four[1], four[2], four[3]]))
+        .map(|four| value_of(u32::from_le_bytes([four[0], four[1], four[2], four[3]])))
         .collect();
     Ok(Query { predicate, values })
 }

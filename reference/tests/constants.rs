@@ -50,7 +50,7 @@ fn constants_stand_as_listed() {
         &[0],
         &[0, 0, 0],
         &[7, 0, 7],
-        &[u32::MAX, 1, u32::MAX, 0x0102_0304],
+        &[MOST, 1, MOST, 0x0102_0304],
         &[8, 7, 6, 5, 4, 3, 2, 1],
     ] {
         let book = book_with(&[1, 2], constants, &[]);
@@ -70,17 +70,17 @@ fn terms_that_name_constants() {
         &[(1, &[D, NIL, 131, 0])],
         &[(0, &[130])],
     )];
-    let set = read(&book_with(&[1], &[7, 7, 0, u32::MAX], &rules));
+    let set = read(&book_with(&[1], &[7, 7, 0, MOST], &rules));
     let rule = &set.rules[0];
     assert_eq!(rule.pure[0].left, Term::Constant(7));
     assert_eq!(rule.pure[1].right, Term::Constant(0));
-    let most = Term::Constant(u32::MAX);
+    let most = Term::Constant(MOST);
     let fields = [Term::Constant(7), Term::Nil, most, Term::Variable(0)];
     assert_eq!(rule.cells[0].fields, fields);
     assert_eq!(rule.calls[0].arguments, [Term::Constant(0)]);
     // A constant of 0 is read as one, though it has nil's number.
     assert_eq!(Term::Constant(0).number(), Term::Nil.number());
-    assert_eq!(most.number(), Some(u32::MAX as u64));
+    assert_eq!(most.number(), Some(MOST as u64));
     assert_eq!(Term::Variable(0).number(), None);
 }
 
@@ -126,7 +126,7 @@ fn faults_in_the_section() {
 #[test]
 fn every_start_of_a_book_with_constants_is_too_short() {
     let mut books = typed_books();
-    books.push(book_with(&[4; 8], &[u32::MAX; 8], &[]));
+    books.push(book_with(&[4; 8], &[MARK; 8], &[]));
     for book in books {
         assert_eq!(book_refusal(&book), 0);
         for end in 0..book.len() {
@@ -164,7 +164,7 @@ const ADDRESS: usize = 6;
 #[test]
 fn every_byte_at_every_place_of_a_term() {
     for count in 0..=8 {
-        let constants = &[3, 0, 3, 7, 8, 9, 10, u32::MAX][..count];
+        let constants = &[3, 0, 3, 7, 8, 9, MOST, MARK][..count];
         for place in 0..=ADDRESS {
             for byte in 0..=255u8 {
                 let variable = byte < 2;
@@ -268,8 +268,8 @@ fn kept_values_with_constants() {
     let book = book_with(&[1], &[3, 1, 0, 3], &[three]);
     assert_eq!(kept(&book, &none, &two), [0, 1, 2, 3, 4, 5, 6]);
     // No rule, no spare; the constants stay.
-    let book = book_with(&[1], &[9, u32::MAX, 1], &[]);
-    let most = u32::MAX as u64;
+    let book = book_with(&[1], &[9, MOST, 1], &[]);
+    let most = MOST as u64;
     assert_eq!(kept(&book, &none, &two), [0, 1, 2, 9, most]);
     // One that is a record's address and one that is asked about.
     let book = book_with(&[1], &[10, 2], &[rule(0, 0, &[], &[], &[])]);
@@ -288,7 +288,7 @@ fn wide_pool() -> Vec<u8> {
     snapshot(&records)
 }
 
-const EIGHT: [u32; 8] = [6, 50, 60, 70, 80, 90, 9000, u32::MAX];
+const EIGHT: [u32; 8] = [6, 50, 60, 70, 80, 90, 9000, MOST];
 
 #[test]
 fn at_most_101_kept_values() {
@@ -301,7 +301,7 @@ fn at_most_101_kept_values() {
     // Spares 2 4 8 to 13.
     assert_eq!(values[..14], (0..14).collect::<Vec<u64>>());
     assert_eq!(values[14..20], [50, 60, 70, 80, 90, 100]);
-    assert_eq!(values[99..], [9000, u32::MAX as u64]);
+    assert_eq!(values[99..], [9000, MOST as u64]);
     // There are far too many facts for any table, but the check needs none.
     let full = api::decide_part(&book, &pool, &ask, 65_535, 196_605).reply;
     assert_eq!(full.refusal, 11);
@@ -328,7 +328,7 @@ fn the_greatest_number_in_a_table() {
     // P(a) if a is the last constant; seven more variables for the spares.
     let last = rule(0, 7, &[[EQUAL, C + 7, 0]], &[], &[]);
     let book = book_with(&[1], &EIGHT, &[last]);
-    let (pool, ask) = (wide_pool(), question(0, &[u32::MAX]));
+    let (pool, ask) = (wide_pool(), question(0, &[MOST]));
     let outcome = api::decide_part(&book, &pool, &ask, 1, 3);
     let expected = PartReply {
         refusal: 0,
@@ -384,7 +384,7 @@ fn verdict_by_all(book: &[u8], pool: &[u8], question: &[u8]) -> (u32, [usize; 3]
 #[test]
 fn in_a_pure_condition() {
     let none = snapshot(&[]);
-    for number in [7, u32::MAX] {
+    for number in [7, MOST] {
         let of = |condition| book_with(&[1], &[3, number], &[rule(0, 0, &[condition], &[], &[])]);
         for [a, b] in [[0, D], [D, 0]] {
             // Kept: 0, one spare, 3 and the number; and then 5.
@@ -410,7 +410,7 @@ fn between_constants_and_nil() {
         verdict_by_all(&book, &none, &question(0, &[])).0 == 1
     };
     let terms = [C, D, E, NIL];
-    for constants in [[7, 7, 8], [0, 7, 0], [0, 0, u32::MAX], [1, 2, 1 << 31]] {
+    for constants in [[7, 7, 8], [0, 7, 0], [0, 0, MOST], [1, 2, 1 << 31]] {
         let value = |term: u8| match term {
             NIL => 0,
             term => constants[(term - C) as usize],
@@ -427,7 +427,7 @@ fn between_constants_and_nil() {
 
 #[test]
 fn in_a_field() {
-    for number in [7, u32::MAX] {
+    for number in [7, MOST] {
         let book = book_with(&[1], &[number], &[rule(0, 0, &[], &[(0, &[NIL, C])], &[])]);
         let ask = question(0, &[10]);
         let reply = |fields: &[u32]| verdict_by_all(&book, &snapshot(&[(10, fields)]), &ask);
@@ -448,7 +448,7 @@ fn in_a_field() {
 fn in_a_call() {
     // P if Q(nil, c, a); Q(a, b, c) if b: (a), with c equal to b. So a record's
     // address may well come from a constant, by way of a variable.
-    for number in [7, u32::MAX] {
+    for number in [7, MOST] {
         let rules = [
             rule(0, 1, &[], &[], &[(1, &[NIL, C, 0])]),
             rule(1, 0, &[[EQUAL, 2, 1]], &[(1, &[0])], &[]),
@@ -990,7 +990,7 @@ fn plain_books_with_constants() {
     assert_eq!(tree(&[3, 3]), Ok(false));
     assert_eq!(tree(&[0, 3]), Ok(true));
     assert_eq!(tree(&[0, 0]), Ok(false));
-    assert_eq!(tree(&[u32::MAX, u32::MAX - 1]), Ok(true));
+    assert_eq!(tree(&[MOST, MOST - 1]), Ok(true));
 }
 
 /// The variables that are fixed in a rule for a predicate without arguments.

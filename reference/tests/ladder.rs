@@ -100,7 +100,7 @@ fn every_start_of_a_book_or_snapshot_is_too_short() {
             assert_eq!(book_refusal(&book[..end]), 1);
         }
     }
-    let pool = snapshot(&[(10, &[20, 0]), (20, &[]), (u32::MAX, &[1, 2, 3, u32::MAX])]);
+    let pool = snapshot(&[(10, &[20, 0]), (20, &[]), (MOST, &[1, 2, 3, MARK])]);
     assert_eq!(heap_refusal(&pool), 0);
     for end in 0..pool.len() {
         assert_eq!(heap_refusal(&pool[..end]), 5);

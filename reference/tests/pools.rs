@@ -150,7 +150,7 @@ fn row_13_sixteen_records() {
 fn most_kept_values() {
     let mut records = Vec::new();
     let fields: Vec<[u32; 4]> = (0..16)
-        .map(|i| [1000 + i, 2000 + i, 3000 + i, u32::MAX - i])
+        .map(|i| [1000 + i, 2000 + i, 3000 + i, MOST - i])
         .collect();
     for (index, four) in fields.iter().enumerate() {
         records.push((100 + index as u32, &four[..]));
@@ -162,7 +162,7 @@ fn most_kept_values() {
     // The spares fill up what is free from below: 2 4 6 8 9 10 11 12.
     assert_eq!(domain.values()[..13], (0..13).collect::<Vec<u64>>());
     assert_eq!(domain.values()[13], 100);
-    assert_eq!(domain.values()[92], u32::MAX as u64);
+    assert_eq!(domain.values()[92], MOST as u64);
 }
 
 #[test]

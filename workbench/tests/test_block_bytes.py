@@ -4,7 +4,7 @@ import unittest
 
 from workbench.book_bytes import decode_book, encode_book, explain_book
 from workbench.mistake import Mistake
-from workbench.model import EQUAL, NIL, Call, Cell, Condition, Pool, Question, Record
+from workbench.model import END_MARK, EQUAL, NIL, Call, Cell, Condition, Pool, Question, Record
 from workbench.pool_bytes import decode_pool, encode_pool, explain_pool
 from workbench.question_bytes import decode_question, encode_question, explain_question
 from workbench.tests.samples import HOUSE, program_cases
@@ -17,7 +17,7 @@ SAID = {
     4: r"the book is complete before this byte",
     5: r"the snapshot ends where .* is due$",
     6: r"stands for .* which is \d to \d+$",
-    7: r"(the address is 0|addresses must ascend)",
+    7: r"(the address is 0|the address is FFFFFFFF|addresses must ascend)",
     8: r"the snapshot is complete before this byte",
     9: r"of the question:",
 }
@@ -47,7 +47,7 @@ class Ladder(unittest.TestCase):
         self.assertEqual(self.check(program_cases("faults", 4)), set(range(10)))
 
     def test_cases(self) -> None:
-        self.assertEqual(self.check(program_cases("cases", 5)), {0, 1, 2, 4, 6, 9, 10, 11})
+        self.assertEqual(self.check(program_cases("cases", 5)), {0, 1, 2, 4, 6, 7, 9, 10, 11})
 
     def test_decoding_has_no_book_or_pool_or_question(self) -> None:
         for refusal, book, snapshot, question in program_cases("faults", 4):
@@ -109,6 +109,7 @@ class Offsets(unittest.TestCase):
         rows = [
             ("11", "byte 0 of the snapshot: 17 stands for the number of records, which is 0 to 16"),
             ("01 00 00 00 00", "byte 1 of the snapshot: the address is 0, which is nil and never an address"),
+            ("01 FF FF FF FF 05", "byte 1 of the snapshot: the address is FFFFFFFF, which is the end mark, so nil and never an address"),
             ("02 05 00 00 00 00 05 00 00 00", "byte 6 of the snapshot: the address 5 follows 5, and addresses must ascend"),
             ("01 05 00 00", "byte 4 of the snapshot: the snapshot ends where an address is due"),
             ("01 05 00 00 00 05", "byte 5 of the snapshot: 5 stands for the number of fields, which is 0 to 4"),
@@ -139,9 +140,23 @@ class Encoding(unittest.TestCase):
         self.assertEqual(encode_book(book), data)
 
     def test_numbers_have_the_lowest_byte_first(self) -> None:
-        pool = Pool((Record(10, (0x01020304,)), Record(2**32 - 1, ())))
-        self.assertEqual(encode_pool(pool).hex(" "), "02 0a 00 00 00 01 04 03 02 01 ff ff ff ff 00")
+        pool = Pool((Record(10, (0x01020304,)), Record(2**32 - 2, ())))
+        self.assertEqual(encode_pool(pool).hex(" "), "02 0a 00 00 00 01 04 03 02 01 fe ff ff ff 00")
         self.assertEqual(encode_question(Question(2, (10, 256))).hex(" "), "02 02 0a 00 00 00 00 01 00 00")
+
+    def test_the_end_mark_is_nil(self) -> None:
+        book = decode_book(bytes.fromhex("01 01 03 07 00 00 00 FF FF FF FF 00 00 00 00 00"))
+        self.assertEqual(book.constants, (7, 0, 0))
+        self.assertEqual(encode_book(book).hex(" "), "01 01 03 07 00 00 00 00 00 00 00 00 00 00 00 00")
+        self.assertEqual(encode_book(book, END_MARK).hex(" "), "01 01 03 07 00 00 00 ff ff ff ff ff ff ff ff 00")
+        pool = decode_pool(bytes.fromhex("01 FE FF FF FF 02 FF FF FF FF 00 00 00 00"))
+        self.assertEqual(pool, Pool((Record(2**32 - 2, (0, 0)),)))
+        self.assertEqual(encode_pool(pool).hex(" "), "01 fe ff ff ff 02 00 00 00 00 00 00 00 00")
+        self.assertEqual(encode_pool(pool, END_MARK).hex(" "), "01 fe ff ff ff 02 ff ff ff ff ff ff ff ff")
+        question = decode_question(bytes.fromhex("01 01 FF FF FF FF"), decode_book(HOUSE))
+        self.assertEqual(question.values, (0,))
+        self.assertEqual(encode_question(question).hex(" "), "01 01 00 00 00 00")
+        self.assertEqual(encode_question(question, END_MARK).hex(" "), "01 01 ff ff ff ff")
 
     def test_names_of_a_decoded_book(self) -> None:
         book = decode_book(HOUSE)

@@ -90,13 +90,13 @@ class Numbers(unittest.TestCase):
         self.assertEqual(book.constants, (3, 1, 4, 5, 9))
 
     def test_0_is_nil_and_takes_no_constant(self) -> None:
-        for zero in ("0", "0x0", "0X000"):
+        for zero in ("0", "0x0", "0X000", "0xFFFFFFFF", "4294967295"):
             book = parse_book(f"p {{ a = {zero} * a -> {zero} * p({zero}) => p(a) }}", "file")
             self.assertEqual(encode_book(book), encode_book(parse_book("p { a = nil * a -> nil * p(nil) => p(a) }", "file")))
         self.assertEqual(write_book(book), "p { a = nil * a -> nil * p(nil) => p(a) } ;\n")
 
     def test_the_largest(self) -> None:
-        self.assertEqual(parse_book("p { a = 4294967295 * a != 0xFFFFFFFF => p(a) }", "file").constants, (2**32 - 1,))
+        self.assertEqual(parse_book("p { a = 4294967294 * a != 0xFFFFFFFE => p(a) }", "file").constants, (2**32 - 2,))
 
     def test_eight_values_are_read(self) -> None:
         self.assertEqual(parse_book("p { a -> 1, 2, 3, 4 * b -> 5, 6, 7, 8 * a = 0 * b = 0x8 => p(a, b) }", "file").constants, tuple(range(1, 9)))

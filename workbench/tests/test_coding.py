@@ -9,6 +9,7 @@ from workbench.coding import (
 )
 from workbench.library import ROOT
 from workbench.mistake import Mistake
+from workbench.model import END_MARK
 from workbench.tests.engine_samples import FROM_TEN_TO_TEN_BYTES, L_BYTES, TWO_BYTES
 
 SEGMENT, CIRCLE = str(ROOT / "examples/segment.book"), str(ROOT / "examples/circle.pool")
@@ -34,6 +35,20 @@ class Coded(unittest.TestCase):
     def test_bytes_stay_as_they_are(self):
         self.assertEqual(encode_book_file(self.file(L_BYTES)), L_BYTES)
         self.assertEqual(encode_pool_file(self.file(TWO_BYTES)), TWO_BYTES)
+
+    def test_nil_in_either_way(self):
+        book = self.file(bytes.fromhex("01 01 02 FF FF FF FF 00 00 00 00 00"))
+        self.assertEqual(encode_book_file(book).hex(), "010102" + "00" * 9)
+        self.assertEqual(encode_book_file(book, END_MARK).hex(), "010102" + "ff" * 8 + "00")
+        pool = self.file(bytes.fromhex("01 0A 00 00 00 02 FF FF FF FF 00 00 00 00"))
+        self.assertEqual(decode_pool_file(pool), "10: nil, nil\n")
+        self.assertEqual(encode_pool_file(pool).hex(), "010a00000002" + "00" * 8)
+        self.assertEqual(encode_pool_file(pool, END_MARK).hex(), "010a00000002" + "ff" * 8)
+        self.assertEqual(encode_question_text("house", "segment(10, nil)", END_MARK).hex(), "00020a000000ffffffff")
+        self.assertEqual(encode_question_text("house", "segment(10, 0xFFFFFFFF)").hex(), "00020a00000000000000")
+        bench = encode_bench_files("house", pool, "segment(10, nil)", END_MARK)
+        self.assertEqual(bench[-20:].hex(), "ff" * 8 + "0a00" + "00020a000000ffffffff")
+        self.assertIn("10: nil, nil\n\n# question\np0(10, nil)\n", decode_bench_file(self.file(bench)))
 
     def test_and_back(self):
         self.assertEqual(decode_pool_file(self.file(TWO_BYTES)), "10: 20\n20: 10\n")

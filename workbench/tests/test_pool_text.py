@@ -15,9 +15,9 @@ MISTAKES = [
     ("10: 20\n‸10: 30", "the address 10 is on line 1 already: an address has one record"),
     ("10: 1,2,3,4,‸5", "this record has a fifth field: a record has at most 4 fields"),
     ("10: (1,2,3,4,‸5)", "this record has a fifth field: a record has at most 4 fields"),
-    ("‸4294967296: 1", "4294967296 is too large: a value is at most 4,294,967,295 (0xFFFFFFFF)"),
-    ("10: ‸4294967296", "4294967296 is too large: a value is at most 4,294,967,295 (0xFFFFFFFF)"),
-    ("10: ‸0x100000000", "0x100000000 is too large: a value is at most 4,294,967,295 (0xFFFFFFFF)"),
+    ("‸4294967296: 1", "4294967296 is too large: a value is at most 4,294,967,294 (0xFFFFFFFE)"),
+    ("10: ‸4294967296", "4294967296 is too large: a value is at most 4,294,967,294 (0xFFFFFFFE)"),
+    ("10: ‸0x100000000", "0x100000000 is too large: a value is at most 4,294,967,294 (0xFFFFFFFE)"),
     ("‸segment { emp => segment() }", "this is a book and no pool: a pool has lines such as 10: 20, or the word emp for no record"),
     ("‸segment(10, 10)", "this is a question and no pool: a pool has lines such as 10: 20, or the word emp for no record"),
     ("‸a: 10", "a is no address: a pool has lines such as 10: 20, or the word emp for no record; names stand in books only"),
@@ -120,7 +120,14 @@ class PoolText(unittest.TestCase):
         self.assertEqual(parse_pool("10: 0x0A", "file").spellings, ())
 
     def test_the_largest_value(self) -> None:
-        self.assertEqual(parse_pool("4294967295: 0xFFFFFFFF, 0x0000000000000000001", "file").records, (Record(2**32 - 1, (2**32 - 1, 1)),))
+        self.assertEqual(parse_pool("4294967294: 0xFFFFFFFE, 0x0000000000000000001", "file").records, (Record(2**32 - 2, (2**32 - 2, 1)),))
+
+    def test_the_end_mark_is_nil(self) -> None:
+        pool = parse_pool("10: 4294967295, 0xFFFFFFFF, 0xffffffff, 0", "file")
+        self.assertEqual(pool, Pool((Record(10, (0, 0, 0, 0)),)))
+        self.assertEqual(write_pool(pool), "10: nil, nil, nil, nil\n")
+        said = "is no address: it is the end mark, so nil, where no record can be"
+        check_rows(self, [(f"10: 20\n‸{mark}: 1", f"{mark} {said}") for mark in ("4294967295", "0xFFFFFFFF", "0x0ffffffff")], parse_pool)
 
     def test_written(self) -> None:
         self.assertEqual(write_pool(Pool((Record(10, (20, 0)), Record(20, ())))), "10: 20, nil\n20: ()\n")
@@ -131,7 +138,7 @@ class PoolText(unittest.TestCase):
         check_rows(self, [(text + "‸17: 1", "this is a seventeenth record: a pool has at most 16 records")], parse_pool)
 
     def test_thousands_of_digits(self) -> None:
-        message = "9999999999999999999999999999999999999... is too large: a value is at most 4,294,967,295 (0xFFFFFFFF)"
+        message = "9999999999999999999999999999999999999... is too large: a value is at most 4,294,967,294 (0xFFFFFFFE)"
         check_rows(self, [("10: ‸" + "9" * 5000, message)], parse_pool)
 
     def test_mistakes(self) -> None:

@@ -14,12 +14,12 @@ def value(text: str, source: str = "file") -> int:
 
 class Values(unittest.TestCase):
     def test_read(self) -> None:
-        for text, number in (("nil", 0), ("0", 0), ("0x00", 0), ("10", 10), ("0x0A", 10), ("0Xff", 255), ("4294967295", 2**32 - 1)):
+        for text, number in (("nil", 0), ("0", 0), ("0x00", 0), ("10", 10), ("0x0A", 10), ("0Xff", 255), ("4294967294", 2**32 - 2), ("4294967295", 0), ("0xffffffff", 0)):
             self.assertEqual(value(text), number)
         self.assertEqual(value("0x" + "0" * 5000 + "1"), 1)
 
     def test_mistakes(self) -> None:
-        most = "is too large: a value is at most 4,294,967,295 (0xFFFFFFFF)"
+        most = "is too large: a value is at most 4,294,967,294 (0xFFFFFFFE)"
         rows = [
             ("‸4294967296", f"4294967296 {most}"),
             ("‸0x100000000", f"0x100000000 {most}"),
@@ -37,7 +37,7 @@ class Values(unittest.TestCase):
         check_rows(self, rows, value)
 
     def test_spellings(self) -> None:
-        tokens = Tokens("0x0A 10 20 0x14 0x0 nil 0x1f 0x1F", "file")
+        tokens = Tokens("0x0A 10 20 0x14 0x0 nil 0xFFFFFFFF 0x1f 0x1F", "file")
         read = [(read_value(tokens, token), token) for token in tokens.all]
         self.assertEqual(spellings_of(read), ((10, "0x0A"), (31, "0x1f")))
 

@@ -1,8 +1,9 @@
 -- Numbers of four bytes.
-use mathlib.Core.{Path._≡_, List.List, List.[], List._∷_}
+use mathlib.Core.{Logic._≢_, Path._≡_, Path.refl, List.List, List.[], List._∷_}
 use Prim.Native.Nat.{ℕ, _+_, _*_}
 use native.Mathlib.Omega.{arith}
-use Rattle.semantics.specs.{Lists.digits, Reader.give, Reader.byte, Reader.word, Formats.asRead, Formats.value}
+use borrow.Author.Tests.{eq-eqb, ne-eqb}
+use Rattle.semantics.specs.{Lists.digits, Reader.give, Reader.byte, Reader.word, Formats.endMark, Formats.asRead, Formats.value}
 use Rattle.reader.specs.{Cursor.Yields, Layout.valueLayout, Layout.Any}
 use Rattle.reader.specs.declared.Cursor.{Cursor}
 use Rattle.reader.proofs.{Chain.chain, Chain.done, Chain.become, Section.Local, Section.single-local, Counting.times-none, Counting.times-more}
@@ -20,6 +21,12 @@ word-read {bytes} {c} {c₄ = c₄} {x} {y} {z} {w} short h₁ h₂ h₃ h₄ =
     let t₃ = times-more (byte short) 2 (x ∷ y ∷ []) z t₂ h₃ in
     let t₄ = times-more (byte short) 3 (x ∷ y ∷ z ∷ []) w t₃ h₄ in
     become (word-value x y z w) (chain (λ bs. give (digits 256 bs)) t₄ (done bytes c₄ _))
+
+pub mark-read : (v : ℕ) → v ≡ endMark → 0 ≡ asRead v
+mark-read v e = rw (eq-eqb v endMark e, asRead) refl
+
+pub other-read : (v : ℕ) → v ≢ endMark → v ≡ asRead v
+other-read v n = rw (ne-eqb v endMark n, asRead) refl
 
 pub value-read : {bytes : List ℕ} {c c₁ : Cursor} {v : ℕ} (short : ℕ) → Yields (word short) bytes c c₁ v → Yields (value short) bytes c c₁ (asRead v)
 value-read {bytes} {c₁ = c₁} short h = chain (λ v. give (asRead v)) h (done bytes c₁ _)

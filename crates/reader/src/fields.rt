@@ -10,6 +10,9 @@ ghost use Rattle.semantics.specs.Formats.{asRead};
 ghost use Rattle.reader.specs.Cursor.{Yields};
 ghost use Rattle.reader.specs.Layout.{valueLayout, Fills, many};
 
+// The end mark: FFFFFFFF.
+pub const END_MARK: u32 = 4294967295;
+
 // A byte as a number of a block.
 pub fn wide(b: u8) -> u32
     ensures { λ r. ⌜ (r ≡ b) × (r < 256) ⌝ }
@@ -37,10 +40,13 @@ pub fn word(s: &[u8], c: Cursor, short: u8) -> Number
     }
 }
 
-// How four bytes of a field, of a query's value or of a constant are read as a value: as they are.
+// How four bytes of a field, of a query's value or of a constant are read as a value: the end mark as nil, all else as it is.
 fn as_read(v: u32) -> u32
     ensures { λ r. ⌜ r ≡ asRead v ⌝ }
 {
+    if v == END_MARK {
+        return 0;
+    }
     v
 }
 

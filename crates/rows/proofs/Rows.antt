@@ -9,7 +9,7 @@ use Rattle.semantics.specs.Reader.{Result, accepted, refused, times, counted, w
 use Rattle.semantics.specs.Formats.{readRuleSet, readSnapshot, records, readQuery, Input, ladder, WellFormedInput}
 use Rattle.semantics.specs.Domain.{firstOutside, spares, insert, ascending, mostVariables, domain}
 use Rattle.semantics.specs.{Fact.position, Fact.code, Fact.fact, Rounds.After, Contract.domainOf, Contract.FitsInput, Contract.CompletedInput}
-use Rattle.rows.specs.Rows.{Row, RowTrue, Verdict, LinesShown, LastShown, rows, constantRows}
+use Rattle.rows.specs.Rows.{Row, RowTrue, Verdict, LinesShown, LastShown, rows, constantRows, markRows}
 use Rattle.semantics.proofs.{DomainFacts.member-true, DomainFacts.member-out, Verdict.verdict, Verdict.fits-whole, FormatsFacts.ladder-read}
 use Rattle.semantics.proofs.Evaluator.{when, both, every, sameList, sameRecord, assignments, compares, meetsAll, finds, takings, answers, callings, joined, byFacts, byRecords, byTest, byValues, byArguments, byRule, steps, following, dropKnown, newFacts, run, Run}
 use Rattle.semantics.proofs.Evaluation.{both-out, every-out, Done, run-done}
@@ -110,14 +110,17 @@ passed row e = by (ladder (row .book) (row .snapshot) (row .question)) refl e
     by (refused n) is-read t = absurd (false≢true t)
 
 -- the nine tests and our own, computed
-rows-pass : every passes (rows ++ constantRows) ≡ true
+rows-pass : every passes (rows ++ (constantRows ++ markRows)) ≡ true
 unfolding digits digitsOf heapValues member times counted word readRuleSet readSnapshot records readQuery ladder firstOutside spares insert ascending mostVariables domain position code when both every sameList sameRecord assignments compares meetsAll finds takings answers callings joined byFacts byRecords byTest byValues byArguments byRule steps following dropKnown newFacts run flatMap sameBool result testRun testLines testLast testRead ways leave isEmpty isSome avoids exactly passes
 rows-pass = refl
 
 -- Each starred row is true: verdict, facts, rounds, lines, and the last fact that the paper gives.
 pub rows-true : (row : Row) → row among rows → RowTrue row
-rows-true row m = passed row (every-out passes (rows ++ constantRows) rows-pass row (Memᴰ·append-left constantRows m))
+rows-true row m = passed row (every-out passes (rows ++ (constantRows ++ markRows)) rows-pass row (Memᴰ·append-left (constantRows ++ markRows) m))
 
--- So are those with constants.
+-- So are those with constants, and those with the end mark.
 pub constant-rows-true : (row : Row) → row among constantRows → RowTrue row
-constant-rows-true row m = passed row (every-out passes (rows ++ constantRows) rows-pass row (Memᴰ·append-right rows m))
+constant-rows-true row m = passed row (every-out passes (rows ++ (constantRows ++ markRows)) rows-pass row (Memᴰ·append-right rows (Memᴰ·append-left markRows m)))
+
+pub mark-rows-true : (row : Row) → row among markRows → RowTrue row
+mark-rows-true row m = passed row (every-out passes (rows ++ (constantRows ++ markRows)) rows-pass row (Memᴰ·append-right rows (Memᴰ·append-right constantRows m)))

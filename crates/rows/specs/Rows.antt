@@ -1,9 +1,9 @@
--- Examples, no part of what must be believed: the starred rows of paper 01 and two with constants, each from its bytes, and what it is for a
--- row to be true.
+-- Examples, no part of what must be believed: the starred rows of paper 01, two with constants and two with the end mark, each from its
+-- bytes, and what it is for a row to be true.
 use mathlib.Core.{Bool.Bool, Bool.true, Bool.false, List.List, List.[], List._∷_, List._++_, Path._≡_}
 use Prim.Native.Nat.{ℕ, _-_}
 use lib.ListN.{length, getD}
-use Rattle.semantics.specs.{Heap.wholeOf, Reader.accepted, Formats.Input, Formats.ladder, Faults.bookL, Faults.four, Faults.asks}
+use Rattle.semantics.specs.{Heap.wholeOf, Reader.accepted, Formats.Input, Formats.ladder, Faults.bookL, Faults.four, Faults.asks, Marks.asMark}
 use Rattle.semantics.specs.Contract.{FitsInput, TrimmedPart, CompletedInput, house}
 
 -- The bytes asked about, and the reply: fits or not, facts, rounds, lines. `last` has the table's last fact, where it is shown too.
@@ -77,4 +77,15 @@ abbrev pub constantRows : List Row
 constantRows =
     record { book = bookC; snapshot = 1 ∷ node 10 9; question = 0 ∷ 1 ∷ four 10; fits = true; facts = 1; rounds = 1; lines = 1; last = 262145 ∷ [] }
     ∷ record { book = bookC; snapshot = 1 ∷ node 10 1; question = 0 ∷ 1 ∷ four 10; fits = false; facts = 0; rounds = 0; lines = 0; last = [] }
+    ∷ []
+
+-- And two with the end mark. The segment from 10 to nil, written as the mark in field and question: the kept values are 0, 1, 2, 3, 10, and
+-- the last fact is that of the record. Book N has the mark for a constant: P(a), for any a, if the constant is nil. Kept are 0 and a spare.
+abbrev pub bookN : List ℕ
+bookN = 1 ∷ 1 ∷ 1 ∷ (asMark ++ (1 ∷ 0 ∷ 0 ∷ 1 ∷ 0 ∷ 128 ∷ 255 ∷ 0 ∷ 0 ∷ []))
+
+abbrev pub markRows : List Row
+markRows =
+    record { book = bookL; snapshot = 1 ∷ (four 10 ++ (1 ∷ asMark)); question = 0 ∷ 2 ∷ (four 10 ++ asMark); fits = true; facts = 6; rounds = 2; lines = 2; last = 262145 ∷ [] }
+    ∷ record { book = bookN; snapshot = 0 ∷ []; question = 0 ∷ 1 ∷ four 0; fits = true; facts = 2; rounds = 1; lines = 1; last = 65536 ∷ [] }
     ∷ []

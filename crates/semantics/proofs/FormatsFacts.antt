@@ -1,16 +1,17 @@
 -- What the ladder accepts is well formed and within every size; what it refuses has a number of 1 to 9. For each reader, one law says what
--- is known of what it gives; a chain of readers has the laws chained. With bytes below 256 every value is below 2 ^ 32.
-use mathlib.Core.{Bool.Bool, Bool.true, Bool.false, Path._≡_, Path.refl, Path.ap, Path._∙_, Logic.⊎-elim}
+-- is known of what it gives; a chain of readers has the laws chained. With bytes below 256 every value is below 2 ^ 32; the end mark is no
+-- value.
+use mathlib.Core.{Bool.Bool, Bool.true, Bool.false, Bool.not, Bool._&&_, Bool.false≢true, Logic._≢_, Path._≡_, Path.refl, Path.ap, Path._∙_, Logic.⊎-elim}
 use mathlib.Core.List.{List, [], _∷_, List·Memᴰ·head, List·Memᴰ·tail, List·Memᴰ·cases-cons, List·Memᴰ·not-nil, List·Memᴰ·append-cases}
 use Prim.Native.Nat.{ℕ, zero, suc, _+_, _-_, _≤_, _<_}
 use native.Mathlib.Omega.{arith}
 use lib.{ListN.length, ListN.getD, Dec.eqb, Dec.leb, Dec.ltb}
-use borrow.Author.Tests.{eqb-true, leb-true, ltb-true}
+use borrow.Author.Tests.{eqb-true, eqb-false, leb-true, ltb-true}
 use Rattle.semantics.specs.Lists.{_among_, digits}
 use Rattle.semantics.specs.RuleSet.{Term, var, fixed, Kind, Pure, PointsTo, Call, Rule, RuleSet, InScope, WellFormed, WellFormedRule}
 use Rattle.semantics.specs.Heap.{Record, Heap, Above, WellFormedHeap, heapValues}
 use Rattle.semantics.specs.Reader.{Got, got, fault, Reader, onward, _>>=_, give, ensure, byte, times, counted, word, Result, accepted, refused, all, andThen}
-use Rattle.semantics.specs.Formats.{isAddress, named, termOf, term, kindOf, kind, pure, atom, call, body, rule, arguments, predicates, constants, ruleSet, readRuleSet, value, address, records, snapshot, readSnapshot, Query, query, readQuery, Input, ladder, WellFormedInput}
+use Rattle.semantics.specs.Formats.{endMark, asRead, isAddress, named, termOf, term, kindOf, kind, pure, atom, call, body, rule, arguments, predicates, constants, ruleSet, readRuleSet, value, address, records, snapshot, readSnapshot, Query, query, readQuery, Input, ladder, WellFormedInput}
 use Rattle.semantics.proofs.{Coding.getD-in, Digits.digits-below}
 
 -- a refusal's number
@@ -39,9 +40,20 @@ record Few {A : Type 0} (P : A → Type 0) (most : ℕ) (entries : List A) : Typ
   pub few : length entries ≤ most
   pub each : Each P entries
 
--- The laws, over what is known of the bytes (B) and so of a word (W).
-record Known (B W : ℕ → Type 0) : Type 0 where
+-- The laws, over what is known of the bytes (B), so of a word (W), and so of what is read as a value or taken for an address (R).
+record Known (B W R : ℕ → Type 0) : Type 0 where
   pub word-known : (bs : List ℕ) → length bs ≡ 4 → Each B bs → W (digits 256 bs)
+  pub value-known : (v : ℕ) → W v → R (asRead v)
+  pub address-known : (a : ℕ) → W a → a ≢ endMark → R a
+
+-- what the test of an address tells
+address-passed : (low a : ℕ) → isAddress low a ≡ true → (low < a) × (a ≢ endMark)
+address-passed low a e = by (ltb low a) (eqb a endMark) (ltb-true low a) (eqb-false a endMark) e
+  where
+    by : (s t : Bool) → (s ≡ true → low < a) → (t ≡ false → a ≢ endMark) → (s && not t) ≡ true → (low < a) × (a ≢ endMark)
+    by true true f g e = absurd (false≢true e)
+    by true false f g e = (f refl, g refl)
+    by false t f g e = absurd (false≢true e)
 
 module _ (B : ℕ → Type 0) where
   -- P of what is read, if something is, and B of the bytes left; a fault is a refusal's number
@@ -224,24 +236,24 @@ module _ (B : ℕ → Type 0) where
 
   -- ---- with what is known of values: constants and so the rule set, the snapshot, the query
 
-  module _ (W : ℕ → Type 0) (known : Known B W) where
+  module _ (W R : ℕ → Type 0) (known : Known B W R) where
     word-gives : (short : ℕ) → Number short → Gives W (word short)
     unfolding word
     word-gives short number =
         chain (Entries B 4) W (times 4 (byte short)) _ (times-gives B 4 (byte short) (byte-gives short number)) λ bs e.
         give-gives W (digits 256 bs) (known .word-known bs (e .count) (e .each))
 
-    value-gives : (short : ℕ) → Number short → Gives W (value short)
-    value-gives short number = chain W W (word short) _ (word-gives short number) λ v p. give-gives W v p
+    value-gives : (short : ℕ) → Number short → Gives R (value short)
+    value-gives short number = chain W R (word short) _ (word-gives short number) λ v p. give-gives R (asRead v) (known .value-known v p)
 
     record RuleSetRead (r : RuleSet) : Type 0 where
       pub formed : WellFormed r
-      pub constants : Each W (r .constants)
+      pub constants : Each R (r .constants)
 
     rule-set-gives : Gives RuleSetRead ruleSet
     rule-set-gives =
         chain AritiesRead RuleSetRead predicates _ predicates-gives λ arities ha.
-        chain (Few W _) RuleSetRead constants _ (counted-gives W 1 2 _ (value 1) (omega arith) (omega arith) (value-gives 1 (omega arith))) λ cs hc.
+        chain (Few R _) RuleSetRead constants _ (counted-gives R 1 2 _ (value 1) (omega arith) (omega arith) (value-gives 1 (omega arith))) λ cs hc.
         chain (Few (RuleRead cs arities) 16) RuleSetRead (counted 1 2 16 (rule arities cs)) _
         (counted-gives (RuleRead cs arities) 1 2 16 (rule arities cs) (omega arith) (omega arith) (rule-gives cs arities)) λ rules hr.
         give-gives RuleSetRead _ (record {
@@ -258,29 +270,29 @@ module _ (B : ℕ → Type 0) where
 
     record AddressRead (low a : ℕ) : Type 0 where
       pub above : low < a
-      pub known-value : W a
+      pub known-value : R a
 
     address-gives : (low : ℕ) → Gives (AddressRead low) (address low)
     address-gives low =
         chain W (AddressRead low) (word 5) _ (word-gives 5 (omega arith)) λ a p.
-        ensure-gives (AddressRead low) (isAddress low a) 7 a (omega arith) (λ e. record { above = ltb-true low a e; known-value = p })
+        ensure-gives (AddressRead low) (isAddress low a) 7 a (omega arith) (λ e. let h = address-passed low a e in record { above = h .0; known-value = known .address-known a p (h .1) })
 
     record HeapRead (n low : ℕ) (heap : Heap) : Type 0 where
       pub count : length heap ≡ n
       pub above : Above low heap
       pub fields : Each (λ (here : Record). length (here .fields) ≤ 4) heap
-      pub values : Each W (heapValues heap)
+      pub values : Each R (heapValues heap)
 
-    record-values : (a : ℕ) (fs : List ℕ) (heap : Heap) → W a → Each W fs → Each W (heapValues heap) → Each W (heapValues (record { address = a; fields = fs } ∷ heap))
+    record-values : (a : ℕ) (fs : List ℕ) (heap : Heap) → R a → Each R fs → Each R (heapValues heap) → Each R (heapValues (record { address = a; fields = fs } ∷ heap))
     unfolding heapValues
-    record-values a fs heap p hf hm v m = ⊎-elim (each-more W a fs p hf v) (hm v) (List·Memᴰ·append-cases (a ∷ fs) m)
+    record-values a fs heap p hf hm v m = ⊎-elim (each-more R a fs p hf v) (hm v) (List·Memᴰ·append-cases (a ∷ fs) m)
 
     records-gives : (n low : ℕ) → Gives (HeapRead n low) (records n low)
     unfolding records heapValues
-    records-gives zero low = give-gives (HeapRead 0 low) [] (record { count = refl; above = Above.none; fields = each-none _; values = each-none W })
+    records-gives zero low = give-gives (HeapRead 0 low) [] (record { count = refl; above = Above.none; fields = each-none _; values = each-none R })
     records-gives (suc n) low =
         chain (AddressRead low) (HeapRead (suc n) low) (address low) _ (address-gives low) λ a ha.
-        chain (Few W 4) (HeapRead (suc n) low) (counted 5 6 4 (value 5)) _ (counted-gives W 5 6 4 (value 5) (omega arith) (omega arith) (value-gives 5 (omega arith))) λ fs hf.
+        chain (Few R 4) (HeapRead (suc n) low) (counted 5 6 4 (value 5)) _ (counted-gives R 5 6 4 (value 5) (omega arith) (omega arith) (value-gives 5 (omega arith))) λ fs hf.
         chain (HeapRead n a) (HeapRead (suc n) low) (records n a) _ (records-gives n a) λ more hm.
         give-gives (HeapRead (suc n) low) _ (record {
           count = ap suc (hm .count);
@@ -291,7 +303,7 @@ module _ (B : ℕ → Type 0) where
 
     record SnapshotRead (heap : Heap) : Type 0 where
       pub formed : WellFormedHeap heap
-      pub values : Each W (heapValues heap)
+      pub values : Each R (heapValues heap)
 
     snapshot-gives : Gives SnapshotRead snapshot
     snapshot-gives =
@@ -303,7 +315,7 @@ module _ (B : ℕ → Type 0) where
     record QueryRead (arities : List ℕ) (q : Query) : Type 0 where
       pub named : q .predicate < length arities
       pub counted : length (q .values) ≡ getD arities (q .predicate) 0
-      pub values : Each W (q .values)
+      pub values : Each R (q .values)
 
     query-gives : (arities : List ℕ) → Gives (QueryRead arities) (query arities)
     query-gives arities =
@@ -313,7 +325,7 @@ module _ (B : ℕ → Type 0) where
         chain B (QueryRead arities) (byte 9) _ (byte-gives 9 (omega arith)) λ c _.
         chain (λ n. n ≡ getD arities p 0) (QueryRead arities) (ensure (eqb c (getD arities p 0)) 9 c) _
         (ensure-gives (λ n. n ≡ getD arities p 0) (eqb c (getD arities p 0)) 9 c (omega arith) (eqb-true c (getD arities p 0))) λ n hn.
-        chain (Entries W n) (QueryRead arities) (times n (value 9)) _ (times-gives W n (value 9) (value-gives 9 (omega arith))) λ vs hv.
+        chain (Entries R n) (QueryRead arities) (times n (value 9)) _ (times-gives R n (value 9) (value-gives 9 (omega arith))) λ vs hv.
         give-gives (QueryRead arities) _ (record { named = hp; counted = hv .count ∙ hn; values = hv .each })
 
 -- ---- the ladder
@@ -332,19 +344,19 @@ then-yields P Q next (accepted a) h k = k a h
 then-yields P Q next (refused n) h k = h
 
 -- what is known of what is accepted
-record LadderRead (W : ℕ → Type 0) (i : Input) : Type 0 where
+record LadderRead (R : ℕ → Type 0) (i : Input) : Type 0 where
   pub formed : WellFormedInput i
-  pub constants : Each W (i .ruleSet .constants)
-  pub heap-values : Each W (heapValues (i .heap))
-  pub query-values : Each W (i .values)
+  pub constants : Each R (i .ruleSet .constants)
+  pub heap-values : Each R (heapValues (i .heap))
+  pub query-values : Each R (i .values)
 
-module _ (B W : ℕ → Type 0) (known : Known B W) where
-  ladder-yields : (b s q : List ℕ) → Each B b → Each B s → Each B q → Yields (LadderRead W) (ladder b s q)
+module _ (B W R : ℕ → Type 0) (known : Known B W R) where
+  ladder-yields : (b s q : List ℕ) → Each B b → Each B s → Each B q → Yields (LadderRead R) (ladder b s q)
   unfolding ladder readRuleSet readSnapshot readQuery
   ladder-yields b s q eb es eq =
-      then-yields (RuleSetRead B W known) (LadderRead W) _ (readRuleSet b) (all-yields B (RuleSetRead B W known) _ (ruleSet b) (omega arith) (rule-set-gives B W known b eb)) λ r hr.
-      then-yields (SnapshotRead B W known) (LadderRead W) _ (readSnapshot s) (all-yields B (SnapshotRead B W known) _ (snapshot s) (omega arith) (snapshot-gives B W known s es)) λ h hh.
-      then-yields (QueryRead B W known (r .arities)) (LadderRead W) _ (readQuery (r .arities) q) (all-yields B (QueryRead B W known (r .arities)) _ (query (r .arities) q) (omega arith) (query-gives B W known (r .arities) q eq)) λ qu hq.
+      then-yields (RuleSetRead B W R known) (LadderRead R) _ (readRuleSet b) (all-yields B (RuleSetRead B W R known) _ (ruleSet b) (omega arith) (rule-set-gives B W R known b eb)) λ r hr.
+      then-yields (SnapshotRead B W R known) (LadderRead R) _ (readSnapshot s) (all-yields B (SnapshotRead B W R known) _ (snapshot s) (omega arith) (snapshot-gives B W R known s es)) λ h hh.
+      then-yields (QueryRead B W R known (r .arities)) (LadderRead R) _ (readQuery (r .arities) q) (all-yields B (QueryRead B W R known (r .arities)) _ (query (r .arities) q) (omega arith) (query-gives B W R known (r .arities) q eq)) λ qu hq.
       record {
         formed = record {
           valid = record { rules-formed = hr .formed; heap-formed = hh .formed; values-few = omega (arith, hq .counted, hr .formed .arguments-few (qu .predicate)) };
@@ -359,19 +371,19 @@ module _ (B W : ℕ → Type 0) (known : Known B W) where
 abbrev Any : ℕ → Type 0
 Any n = Unit {0}
 
-any-known : Known Any Any
-any-known = record { word-known = λ bs e h. tt }
+any-known : Known Any Any Any
+any-known = record { word-known = λ bs e h. tt; value-known = λ v h. tt; address-known = λ a h n. tt }
 
 any : (xs : List ℕ) → Each Any xs
 any xs a m = tt
 
 -- What is read is well formed, within every size, and in order.
 pub ladder-read : (b s q : List ℕ) (i : Input) → ladder b s q ≡ accepted i → WellFormedInput i
-ladder-read b s q i e = let h : LadderRead Any i = rw e at (ladder-yields Any Any any-known b s q (any b) (any s) (any q)) in h .formed
+ladder-read b s q i e = let h : LadderRead Any i = rw e at (ladder-yields Any Any Any any-known b s q (any b) (any s) (any q)) in h .formed
 
 -- A refusal by the ladder is one of 1 to 9.
 pub ladder-number : (b s q : List ℕ) (n : ℕ) → ladder b s q ≡ refused n → Number n
-ladder-number b s q n e = rw e at (ladder-yields Any Any any-known b s q (any b) (any s) (any q))
+ladder-number b s q n e = rw e at (ladder-yields Any Any Any any-known b s q (any b) (any s) (any q))
 
 -- Of bytes below 256, what is read has values below 2 ^ 32.
 abbrev Byte : ℕ → Type 0
@@ -380,12 +392,37 @@ Byte b = b < 256
 abbrev Value : ℕ → Type 0
 Value v = v < 4294967296
 
-byte-known : Known Byte Value
-byte-known = record { word-known = λ bs e h. omega (arith, digits-below 256 4 bs (omega arith) (omega arith) h) }
+-- Read as a value, a number is nil or what it was.
+read-either : (P : ℕ → Type 0) (v : ℕ) → P 0 → (v ≢ endMark → P v) → P (asRead v)
+read-either P v zeroed kept = by (eqb v endMark) (eqb-false v endMark)
+  where
+    by : (t : Bool) → (t ≡ false → v ≢ endMark) → P (elim t as (λ _. ℕ) [ true ↦ 0 | false ↦ v ])
+    by true f = zeroed
+    by false f = kept (f refl)
+
+byte-known : Known Byte Value Value
+byte-known = record {
+  word-known = λ bs e h. omega (arith, digits-below 256 4 bs (omega arith) (omega arith) h);
+  value-known = λ v h. read-either Value v (omega arith) (λ n. h);
+  address-known = λ a h n. h;
+}
 
 pub ladder-values : (b s q : List ℕ) → ((x : ℕ) → x among b → x < 256) → ((x : ℕ) → x among s → x < 256) → ((x : ℕ) → x among q → x < 256) → (i : Input) → ladder b s q ≡ accepted i
     → ((v : ℕ) → v among i .ruleSet .constants → v < 4294967296) × ((v : ℕ) → v among heapValues (i .heap) → v < 4294967296)
     × ((v : ℕ) → v among i .values → v < 4294967296)
 ladder-values b s q eb es eq i e =
-    let h : LadderRead Value i = rw e at (ladder-yields Byte Value byte-known b s q eb es eq) in
+    let h : LadderRead Value i = rw e at (ladder-yields Byte Value Value byte-known b s q eb es eq) in
     (h .constants, h .heap-values, h .query-values)
+
+-- Of any bytes, the end mark is no value that is read.
+abbrev Unmarked : ℕ → Type 0
+Unmarked v = v ≢ endMark
+
+mark-known : Known Any Any Unmarked
+mark-known = record { word-known = λ bs e h. tt; value-known = λ v h. read-either Unmarked v (λ e. omega arith) (λ n. n); address-known = λ a h n. n }
+
+pub ladder-unmarked : (b s q : List ℕ) (i : Input) → ladder b s q ≡ accepted i
+    → (¬ (endMark among i .ruleSet .constants)) × (¬ (endMark among heapValues (i .heap))) × (¬ (endMark among i .values))
+ladder-unmarked b s q i e =
+    let h : LadderRead Unmarked i = rw e at (ladder-yields Any Any Unmarked mark-known b s q (any b) (any s) (any q)) in
+    (λ m. h .constants endMark m refl, λ m. h .heap-values endMark m refl, λ m. h .query-values endMark m refl)

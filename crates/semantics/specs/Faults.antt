@@ -2,6 +2,7 @@
 use mathlib.Core.List.{List, [], _∷_, _++_}
 use Prim.Native.Nat.{ℕ}
 use lib.ListN.{take}
+use Rattle.semantics.specs.Marks.{asMark}
 
 -- Book L: the list segment, which is the first two rules of H.
 abbrev pub bookL : List ℕ
@@ -56,6 +57,9 @@ faults =
     ∷ inSnapshot (1 ∷ 10 ∷ 0 ∷ 0 ∷ 0 ∷ 5 ∷ []) 6
     ∷ inSnapshot (1 ∷ four 0) 7
     ∷ inSnapshot (2 ∷ (four 10 ++ (0 ∷ four 10))) 7
+    ∷ inSnapshot (1 ∷ asMark) 7
+    ∷ inSnapshot (1 ∷ (asMark ++ (5 ∷ []))) 7
+    ∷ inSnapshot (2 ∷ (four 10 ++ (1 ∷ (asMark ++ (asMark ++ (0 ∷ [])))))) 7
     ∷ inSnapshot (0 ∷ 0 ∷ []) 8
     ∷ inQuestion (1 ∷ []) 9
     ∷ inQuestion (0 ∷ 1 ∷ four 10) 9

@@ -1,6 +1,6 @@
 -- The formats and the ladder (paper 01: the book, the snapshot, the question; refusals 1 to 9): what the bytes say, or the number of
 -- the first fault met, front to back.
-use mathlib.Core.{Bool.Bool, Bool.true, Bool.false, List.List, List.[], List._∷_, Path._≡_}
+use mathlib.Core.{Bool.Bool, Bool.true, Bool.false, Bool.not, Bool._&&_, List.List, List.[], List._∷_, Path._≡_}
 use Prim.Native.Nat.{ℕ, zero, suc, _+_, _-_, _≤_, _<_}
 use lib.{ListN.length, ListN.getD, Dec.eqb, Dec.leb, Dec.ltb}
 use Rattle.semantics.specs.RuleSet.{Term, var, fixed, Kind, equal, unequal, Pure, PointsTo, Call, Rule, RuleSet, arity, WellFormed}
@@ -10,9 +10,13 @@ use Rattle.semantics.specs.Reader.{fault, Reader, _>>=_, give, ensure, b
 
 -- ---- values
 
--- How the four bytes of a field, of a query's value or of a constant are read as a value: as they are.
+-- The end mark: FFFFFFFF, which the current controllers write where a chain ends. Older ones write 0.
+abbrev pub endMark : ℕ
+endMark = 4294967295
+
+-- How the four bytes of a field, of a query's value or of a constant are read as a value: the end mark as nil, all else as it is.
 abbrev pub asRead : ℕ → ℕ
-asRead v = v
+asRead v = elim (eqb v endMark) [ true ↦ 0 | false ↦ v ]
 
 abbrev pub value : ℕ → Reader ℕ
 value short = do
@@ -118,9 +122,9 @@ readRuleSet bytes = all bookLonger (ruleSet bytes)
 
 -- ---- the snapshot
 
--- An address is above the one before; before the first stands 0, so none is nil.
+-- An address is above the one before, and not the end mark; before the first stands 0, so none is nil.
 abbrev pub isAddress : ℕ → ℕ → Bool
-isAddress low a = ltb low a
+isAddress low a = ltb low a && not (eqb a endMark)
 
 abbrev pub address : ℕ → Reader ℕ
 address low = do

@@ -26,7 +26,7 @@ snapshotEnds = 5
 abbrev pub snapshotCount : ℕ
 snapshotCount = 6
 
--- An address is nil, or does not ascend.
+-- An address is nil or the end mark, or does not ascend.
 abbrev pub snapshotAddress : ℕ
 snapshotAddress = 7
 

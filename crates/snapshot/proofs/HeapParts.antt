@@ -1,11 +1,11 @@
 -- Records: address, count and fields make a record, and records one after the other, each above the one before, make the heap.
-use mathlib.Core.{Path._≡_, Path.refl, Path.sym, Path.ap, Path.fun-ext, Path._∙_, Logic.inl, List.List, List._∷_}
+use mathlib.Core.{Path._≡_, Path.refl, Path.sym, Path.ap, Path.fun-ext, Path._∙_, Logic._≢_, Logic.inl, List.List, List._∷_}
 use Prim.Native.Nat.{ℕ, zero, suc, _+_, _*_, _≤_, _<_}
 use native.Mathlib.{Numerals.add-one, Omega.arith}
-use borrow.Author.Tests.{lt-ltb, le-ltb}
-use lib.{Dec.ltb, ListN.getD}
+use borrow.Author.Tests.{lt-ltb, le-ltb, eq-eqb, ne-eqb}
+use lib.ListN.{getD}
 use Rattle.semantics.specs.{Heap.Record, Heap.Heap, Reader.Got, Reader.got, Reader.fault, Reader.onward, Reader._>>=_, Reader.give, Reader.word, Reader.counted}
-use Rattle.semantics.specs.Formats.{value, address, records, snapshot}
+use Rattle.semantics.specs.Formats.{endMark, value, isAddress, address, records, snapshot}
 use Rattle.words.specs.Entries.{tabulate}
 use Rattle.block.specs.Layout.{recordIn, heapIn}
 use Rattle.words.proofs.Tabulate.{tabulate-more}
@@ -16,12 +16,15 @@ use Rattle.reader.proofs.Chain.{assoc, chain, done, turn, passed, failed}
 use Rattle.reader.proofs.Counting.{threaded, left, left-snoc, threaded-none, threaded-more, ranged-then, counted-read}
 use Rattle.reader.proofs.{Keep.kept-none, Keep.kept-both, Section.ones, Section.entries-same, Section.Local, Section.row-more}
 
--- an address above the one before, and one that is not
-pub address-above : {bytes : List ℕ} {c c₁ : Cursor} {v : ℕ} (low : ℕ) → Yields (word 5) bytes c c₁ v → low < v → Yields (address low) bytes c c₁ v
-address-above {bytes} {c₁ = c₁} {v} low h l = chain _ h (passed bytes c₁ (ltb low v) 7 v (lt-ltb low v l))
+-- an address above the one before, one that is not, and the end mark
+pub address-above : {bytes : List ℕ} {c c₁ : Cursor} {v : ℕ} (low : ℕ) → Yields (word 5) bytes c c₁ v → low < v → v ≢ endMark → Yields (address low) bytes c c₁ v
+address-above {bytes} {c₁ = c₁} {v} low h l n = chain _ h (passed bytes c₁ (isAddress low v) 7 v (rw (lt-ltb low v l, ne-eqb v endMark n) refl))
 
 pub address-off : {bytes : List ℕ} {c c₁ : Cursor} {v : ℕ} (low x : ℕ) → Yields (word 5) bytes c c₁ v → v ≤ low → Yields (address low) bytes c (stopped 7 c₁) x
-address-off {bytes} {c₁ = c₁} {v} low x h l = chain _ h (failed bytes c₁ (ltb low v) 7 v x (le-ltb low v l))
+address-off {bytes} {c₁ = c₁} {v} low x h l = chain _ h (failed bytes c₁ (isAddress low v) 7 v x (rw (le-ltb low v l) refl))
+
+pub address-mark : {bytes : List ℕ} {c c₁ : Cursor} {v : ℕ} (low x : ℕ) → Yields (word 5) bytes c c₁ v → low < v → v ≡ endMark → Yields (address low) bytes c (stopped 7 c₁) x
+address-mark {bytes} {c₁ = c₁} {v} low x h l e = chain _ h (failed bytes c₁ (isAddress low v) 7 v x (rw (lt-ltb low v l, eq-eqb v endMark e) refl))
 
 pub record-local : (low : ℕ) → Local (recordLayout low)
 record-local low = record {

@@ -10,6 +10,7 @@ use reader::Reader;
 use reader::bytes::finish;
 use reader::bytes::ranged;
 use reader::bytes::stop;
+use reader::fields::END_MARK;
 use reader::fields::values;
 use reader::fields::wide;
 ghost use Rattle.block.specs.Layout.{firstRecord, heapSize, recordRoom};
@@ -19,7 +20,7 @@ ghost use lib.ListN.{length};
 ghost use Rattle.snapshot.specs.HeapLayout.{sizeLayout, recordLayout, recordsLayout, AfterWord, AddressAfter, HeapFills, HeapRead};
 ghost use Rattle.reader.specs.Layout.{Fills};
 
-// The refusals of a snapshot: it ends too soon, a count is out of range, an address is not above the one before, bytes follow.
+// The refusals of a snapshot: it ends too soon, a count is out of range, an address is the end mark or not above the one before, bytes follow.
 const ENDS: u8 = 5;
 
 const RANGE: u8 = 6;
@@ -33,14 +34,16 @@ const MOST_RECORDS: u8 = 16;
 
 const MOST_FIELDS: u8 = 4;
 
-// An address that was read, if it is above the one before. Before the first stands 0.
+// An address that was read, if it is above the one before and not the end mark. Before the first stands 0.
 fn address(c: Cursor, v: u32, heap: &mut [u32], at: usize, low: u32) -> Cursor
     requires { ⌜ at < length (now heap) ⌝ }
     ensures { λ r. ⌜ AddressAfter low at c v (now (heap .entry)) (now (heap .exit)) r ⌝ }
 {
     if low < v {
-        heap[at] = v;
-        return c;
+        if v != END_MARK {
+            heap[at] = v;
+            return c;
+        }
     }
     stop(c, ADDRESS)
 }

@@ -73,6 +73,10 @@ pub fn known_books() -> Vec<Vec<u8>> {
     vec![book_l(), book_s(), book_h(), right, halves, any, tree]
 }
 
+/// The end mark, and the greatest number that is not it.
+pub const MARK: u32 = 0xFFFF_FFFF;
+pub const MOST: u32 = 0xFFFF_FFFE;
+
 pub const NIL: u8 = 255;
 /// The first three constants.
 pub const C: u8 = 128;
@@ -428,7 +432,7 @@ impl Dice {
     pub fn with_constants(seed: u64, most: usize) -> Dice {
         let mut dice = Dice::new(seed);
         for _ in 0..dice.between(1, most) {
-            let constant = dice.pick(&[0, 0, 1, 3, 3, 4, 7, 9, 20, u32::MAX]);
+            let constant = dice.pick(&[0, 0, 1, 3, 3, 4, 7, 9, 20, MOST]);
             dice.constants.push(constant);
         }
         dice

@@ -1,6 +1,7 @@
 //! What a book has to do with constants, by its bytes alone.
 
 use crate::input::*;
+use crate::nil::as_read;
 
 /// The first fault of a book, if it is about constants.
 #[derive(Clone, Copy, PartialEq, Eq)]
@@ -18,24 +19,25 @@ pub enum Fault {
 
 /// Up to the first fault.
 #[derive(Default)]
-pub struct Marks {
+pub struct ConstantUse {
+    /// As they are read.
     pub constants: Vec<u32>,
     /// Those that a term names, by their places.
     pub named: Vec<usize>,
     pub fault: Option<Fault>,
 }
 
-impl Marks {
-    pub fn of(book: &[u8]) -> Marks {
+impl ConstantUse {
+    pub fn of(book: &[u8]) -> ConstantUse {
         let mut reader = Reader {
             rest: book,
-            marks: Marks::default(),
+            found: ConstantUse::default(),
         };
-        reader.marks.fault = reader.book().err();
-        let mut marks = reader.marks;
-        marks.named.sort();
-        marks.named.dedup();
-        marks
+        reader.found.fault = reader.book().err();
+        let mut found = reader.found;
+        found.named.sort();
+        found.named.dedup();
+        found
     }
 
     /// Numbers of which two names are in use, nil among them.
@@ -51,7 +53,7 @@ impl Marks {
 
 struct Reader<'a> {
     rest: &'a [u8],
-    marks: Marks,
+    found: ConstantUse,
 }
 
 impl Reader<'_> {
@@ -80,7 +82,9 @@ impl Reader<'_> {
             for byte in &mut value {
                 *byte = self.byte().map_err(|_| Fault::Cut)?;
             }
-            self.marks.constants.push(u32::from_le_bytes(value));
+            self.found
+                .constants
+                .push(as_read(u32::from_le_bytes(value)));
         }
         for _ in 0..self.count(MOST_RULES, Fault::Other)? {
             self.rule(&arities)?;
@@ -100,7 +104,7 @@ impl Reader<'_> {
         }
         for _ in 0..self.count(MOST_CELLS, Fault::Other)? {
             let address = self.byte()?;
-            let listed = FIRST_CONSTANT..FIRST_CONSTANT + self.marks.constants.len() as u8;
+            let listed = FIRST_CONSTANT..FIRST_CONSTANT + self.found.constants.len() as u8;
             match address {
                 _ if listed.contains(&address) => return Err(Fault::Address),
                 _ if (address as usize) < variables => {}
@@ -123,10 +127,10 @@ impl Reader<'_> {
                 NIL => {}
                 FIRST_CONSTANT.. => {
                     let at = (term - FIRST_CONSTANT) as usize;
-                    if at >= self.marks.constants.len() {
+                    if at >= self.found.constants.len() {
                         return Err(Fault::Term);
                     }
-                    self.marks.named.push(at);
+                    self.found.named.push(at);
                 }
                 _ if (term as usize) < variables => {}
                 _ => return Err(Fault::Other),
