@@ -9,7 +9,7 @@
  * Refusals of both entries, the first fault that reading meets:
  *   1 the book is too short                          5 the snapshot is too short
  *   2 a count in the book is out of its range        6 a count in the snapshot is out of its range
- *   3 a byte in the book is no name                  7 an address is 0, or the addresses do not ascend
+ *   3 a byte in the book is no name                  7 an address is 0 or FFFFFFFF, or does not ascend
  *   4 the book is too long                           8 the snapshot is too long
  *   9 the question is not one about this book
  * Of desk_decide alone:
@@ -17,6 +17,7 @@
  * README.md says what to do about each. 10 is not given here: the entries bring their own memory.
  * A book has a section of constants after its argument counts, a 00 if there is none. One from before constants came gains that byte:
  * without it most are refused with 1 to 4, but a short one may be read as another book.
+ * A field, a value of the question or a constant FFFFFFFF is read as 0, which is nil.
  *
  * Nothing is allocated, nothing that is lent is changed or kept, and no byte outside a block is read. A block of no bytes may have any
  * pointer that is not null. The entries share nothing, so several threads may call them at once. On the stack desk_decide

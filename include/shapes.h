@@ -6,7 +6,7 @@
  * Refusals of every call, the first fault that reading meets:
  *   1 the book is too short                          5 the snapshot is too short
  *   2 a count in the book is out of its range        6 a count in the snapshot is out of its range
- *   3 a byte in the book is no name                  7 an address is 0, or the addresses do not ascend
+ *   3 a byte in the book is no name                  7 an address is 0 or FFFFFFFF, or does not ascend
  *   4 the book is too long                           8 the snapshot is too long
  *   9 the question is not one about this book
  * Of shapes_decide and shapes_part alone:
@@ -15,6 +15,7 @@
  * README.md says what to do about each, docs/FORMAT.md has the bytes of book, snapshot and question and the words of table and space.
  * A book has a section of constants after its argument counts, a 00 if there is none. One from before constants came gains that byte:
  * without it most are refused with 1 to 4, but a short one may be read as another book.
+ * A field, a value of the question or a constant FFFFFFFF is read as 0, which is nil.
  *
  * Lengths count bytes, or words of 64 bits. Nothing is allocated or kept, and nothing outside what is lent is read or written. A block of
  * length 0 may have any pointer that is not null and is aligned for its type; no two blocks that are written may overlap each other or one
