@@ -1,7 +1,7 @@
 //! Inputs made to cost time.
 
 use crate::input::*;
-use crate::nil::LARGEST;
+use crate::nil::{self, END_MARK, LARGEST};
 use crate::random::Dice;
 use crate::shapes;
 
@@ -31,6 +31,11 @@ pub fn made() -> Vec<(&'static str, Input)> {
         ("most-kept-values", most_kept_values()),
         ("unmet-by-constants", unmet_by_constants()),
         ("plain-tree-by-constants", tree_by_constants()),
+        ("unmet-by-marks", unmet_by_marks()),
+        (
+            "plain-tree-to-marks",
+            nil::spelt(&tree_of_three(), END_MARK),
+        ),
     ]
 }
 
@@ -335,6 +340,26 @@ fn unmet_by_constants() -> Input {
     rules.push(Rule::new(1, 0).unequal(0, constant(3)));
     let book = Book::new(&[0, 2], rules).with_constants(&ODD);
     Input::new(&book, &apart(15), &Query::new(0, &[]))
+}
+
+/// Every constant, field and value of the question is the mark. One that is
+/// kept as a number makes the calls of some rule worth trying.
+fn unmet_by_marks() -> Input {
+    let mut rules = Vec::new();
+    for place in 0..15 {
+        let named = constant(place % MOST_CONSTANTS);
+        let dead = Rule::new(0, 4).equal(4, NIL).equal(5, 4);
+        let dead = dead.unequal(5, named).call(1, &[0, 1]);
+        rules.push(dead.call(1, &[2, 3]).call(1, &[1, 2]));
+    }
+    rules.push(Rule::new(1, 0));
+    let mut heap = Heap::default();
+    for address in 1..=MOST_RECORDS as u32 {
+        heap = heap.with(100 * address, &[0; MOST_FIELDS]);
+    }
+    let book = Book::new(&[4, 2], rules).with_constants(&[0; MOST_CONSTANTS]);
+    let zeros = Input::new(&book, &heap, &Query::new(0, &[0; 4]));
+    nil::spelt(&zeros, END_MARK)
 }
 
 /// As the tree of three, but what can never be met are two constants, and the
