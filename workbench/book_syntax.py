@@ -7,6 +7,7 @@ from string import ascii_lowercase
 from workbench.lexer import RESERVED, TERMS, Token, Tokens, shorten, shown
 from workbench.mistake import Mistake
 from workbench.model import MOST_ARGUMENTS, MOST_CALLS, MOST_CELLS, MOST_CONDITIONS, MOST_CONSTANTS, MOST_FIELDS, MOST_VARIABLES
+from workbench.values import base_sixteen, is_bare_mark, is_nil
 
 # Begins the list of constants. It is not reserved: a predicate of this name is followed by {, or by ( and no number.
 CONSTANTS = "constants"
@@ -82,7 +83,7 @@ def _constants(tokens: Tokens) -> list[Token]:
 
 def _no_constant(token: Token, after: Token) -> str:
     if token.kind == "name" and after.kind not in ("{", "("):
-        return "constants have no names: write the number in the cases"
+        return f"constants have no names: write the number in the cases{base_sixteen(token)}"
     if token.kind == "(":
         return f"a list of constants has no parentheses: write {CONSTANTS} 7, 8 ; and then the blocks"
     return f"a number is missing before {shown(token)}: write {CONSTANTS} 7, 8 ; and then the blocks"
@@ -235,7 +236,7 @@ def _condition(tokens: Tokens, case: Case) -> None:
 
 def _cell(tokens: Tokens, case: Case) -> None:
     address = tokens.peek()
-    if address.text == "nil" or (address.kind == "number" and not address.text.strip("0xX")):
+    if is_nil(address):
         raise tokens.mistake(f"{shown(address)} is no address: the address of a cell must be a name", address)
     if address.kind != "name":
         message = f"{shown(address)} is a number, and the address of a cell must be a name: {_name_for(tokens, address)}"
@@ -402,5 +403,7 @@ def _refuse_no_variable(tokens: Tokens, token: Token) -> None:
     _refuse_reserved(tokens, token, "variable")
     if token.text.lower() in ("nil", "null"):
         raise tokens.mistake(f"{token.text} is no variable: write nil, or another name", token)
+    if is_bare_mark(token):
+        raise tokens.mistake(f"{token.text} is no variable: write nil or 0x{token.text} for the end mark, or another name", token)
     if token.text == "_":
         raise tokens.mistake("_ alone is no name: write a name of its own for each value that may be any", token)

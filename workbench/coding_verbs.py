@@ -20,7 +20,7 @@ def encode_verb(arguments: list[str]) -> int:
         "encode",
         f"{ENCODED} [-o FILE] [--hex] [--mark]",
         "Writes the bytes of a book, a snapshot or a question, or all three as the bench program reads them.\n"
-        "On a terminal they are shown in base sixteen. Nil is 0 in them, as in older controllers, or with --mark FFFFFFFF.",
+        "On a terminal they are shown in base sixteen. Nil is written as 0, as older controllers do, or with --mark as FFFFFFFF.",
         "./shapes encode bench house examples/queue.pool 'queue_and_free(0x10, 0x40)' | target/bin/bench",
     )
     made.add_argument("-o", metavar="FILE", help="where to write; otherwise to standard output")
@@ -37,7 +37,8 @@ def decode_verb(arguments: list[str]) -> int:
     made = parser(
         "decode",
         f"{DECODED} [-o FILE]",
-        "Writes the text of a book, a snapshot or a question given as bytes, or of the bench program's input.",
+        "Writes the text of a book, a snapshot or a question given as bytes, or of the bench program's input.\n"
+        "Nil is `nil` there, whether the bytes have 0 or FFFFFFFF.",
         "./shapes decode bench crates/bench/stdin",
     )
     made.add_argument("-o", metavar="FILE", help="where to write; otherwise to standard output")

@@ -3,7 +3,7 @@
 from workbench.lexer import TERMS, Token, Tokens, shown
 from workbench.mistake import Mistake
 from workbench.model import MOST_FIELDS, MOST_RECORDS, Pool, Record
-from workbench.values import base_sixteen, read_value, spellings_of, write_value
+from workbench.values import base_sixteen, is_bare_mark, is_nil, read_value, spellings_of, write_value
 
 SUCH_AS = "a pool has lines such as 10: 20, or the word emp for no record"
 
@@ -49,14 +49,14 @@ def _record(tokens: Tokens, read: list[tuple[int, Token]]) -> Record:
     place = tokens.next()
     if place.text == "emp":
         raise tokens.mistake("emp stands alone, for a pool with no record: take it away", place)
-    if place.kind == "name" and place.text != "nil":
+    if place.kind == "name" and place.text != "nil" and not is_bare_mark(place):
         raise tokens.mistake(f"{shown(place)} is no address: {SUCH_AS}; names stand in books only{base_sixteen(place)}", place)
     if place.kind not in TERMS:
         raise tokens.mistake(f"{shown(place)} begins no record: {SUCH_AS}", place)
-    address = read_value(tokens, place)
-    if address == 0:
+    if is_bare_mark(place) or is_nil(place):
         what = "0 is" if place.text == "nil" or not place.text.strip("0xX") else "it is the end mark, so"
-        raise tokens.mistake(f"{shown(place)} is no address: {what} nil, where no record can be", place)
+        raise tokens.mistake(f"{shown(place)} is no address: {what} nil, where no record can be; correct it, or leave the line out", place)
+    address = read_value(tokens, place)
     read.append((address, place))
     _colon(tokens, place)
     return Record(address, tuple(_fields(tokens, place.line, read)))

@@ -23,8 +23,18 @@ def read_value(tokens: Tokens, token: Token) -> int:
     if value == END_MARK:
         return 0
     if value > MOST_VALUE:
-        raise tokens.mistake(f"{shown(token)} is too large: a value is at most {MOST_VALUE:,} (0x{MOST_VALUE:X})", token)
+        raise tokens.mistake(f"{shown(token)} is too large: a value is at most {MOST_VALUE:,} (0x{MOST_VALUE:X}), and 0x{END_MARK:X} is nil", token)
     return value
+
+
+def is_bare_mark(token: Token) -> bool:
+    """Whether it is the end mark without 0x, which is a name."""
+    return token.text.lower() == f"{END_MARK:x}"
+
+
+def is_nil(token: Token) -> bool:
+    """Whether a term is nil, written as a word or as a number."""
+    return token.text == "nil" or (token.kind == "number" and _number(token.text) in (0, END_MARK))
 
 
 def base_sixteen(token: Token) -> str:

@@ -59,7 +59,7 @@ class Texts(unittest.TestCase):
                 ("10,‸emp", f"emp is no address: {such_as} alone"),
                 ("10 ‸300", "300 cannot follow: write addresses with , between them, or emp alone"),
                 ("emp‸,10", '"," cannot follow: write addresses with , between them, or emp alone'),
-                ("‸99999999999", "99999999999 is too large: a value is at most 4,294,967,294 (0xFFFFFFFE)"),
+                ("‸99999999999", "99999999999 is too large: a value is at most 4,294,967,294 (0xFFFFFFFE), and 0xFFFFFFFF is nil"),
                 ("10,‸020", "020 begins with 0: write 20, or 0x and the digits for base sixteen"),
             ],
             lambda text, source: parse_part(text, POOL, source),

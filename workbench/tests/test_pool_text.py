@@ -10,14 +10,14 @@ MISTAKES = [
     ("10 ‸20", "write : after the address 10, and not 20"),
     ("‸10", ": is missing after the address 10: write 10: and the fields on the same line"),
     ("10:\n‸20", ": is missing after the address 20: write 20: and the fields on the same line"),
-    ("‸0: 1", "0 is no address: 0 is nil, where no record can be"),
-    ("‸nil: 1", "nil is no address: 0 is nil, where no record can be"),
+    ("‸0: 1", "0 is no address: 0 is nil, where no record can be; correct it, or leave the line out"),
+    ("‸nil: 1", "nil is no address: 0 is nil, where no record can be; correct it, or leave the line out"),
     ("10: 20\n‸10: 30", "the address 10 is on line 1 already: an address has one record"),
     ("10: 1,2,3,4,‸5", "this record has a fifth field: a record has at most 4 fields"),
     ("10: (1,2,3,4,‸5)", "this record has a fifth field: a record has at most 4 fields"),
-    ("‸4294967296: 1", "4294967296 is too large: a value is at most 4,294,967,294 (0xFFFFFFFE)"),
-    ("10: ‸4294967296", "4294967296 is too large: a value is at most 4,294,967,294 (0xFFFFFFFE)"),
-    ("10: ‸0x100000000", "0x100000000 is too large: a value is at most 4,294,967,294 (0xFFFFFFFE)"),
+    ("‸4294967296: 1", "4294967296 is too large: a value is at most 4,294,967,294 (0xFFFFFFFE), and 0xFFFFFFFF is nil"),
+    ("10: ‸4294967296", "4294967296 is too large: a value is at most 4,294,967,294 (0xFFFFFFFE), and 0xFFFFFFFF is nil"),
+    ("10: ‸0x100000000", "0x100000000 is too large: a value is at most 4,294,967,294 (0xFFFFFFFE), and 0xFFFFFFFF is nil"),
     ("‸segment { emp => segment() }", "this is a book and no pool: a pool has lines such as 10: 20, or the word emp for no record"),
     ("‸segment(10, 10)", "this is a question and no pool: a pool has lines such as 10: 20, or the word emp for no record"),
     ("‸a: 10", "a is no address: a pool has lines such as 10: 20, or the word emp for no record; names stand in books only"),
@@ -77,7 +77,7 @@ MISTAKES = [
     ("10: ‸(\n", "( is not closed on its line: write ) after the last field"),
     ("10: (20‸,\n30)", "a field is missing after this comma: write one on the same line, or take the comma away"),
     ("10: (20 ‸30)", ", is missing before 30: write , between fields and ) after the last"),
-    ("‸nil", "nil is no address: 0 is nil, where no record can be"),
+    ("‸nil", "nil is no address: 0 is nil, where no record can be; correct it, or leave the line out"),
     ("emp‸:", "\":\" follows emp: emp stands alone, for a pool with no record"),
     ("‸p() { }", "this is a book and no pool: a pool has lines such as 10: 20, or the word emp for no record"),
     ("‸x => 3", "this is a book and no pool: a pool has lines such as 10: 20, or the word emp for no record"),
@@ -126,8 +126,8 @@ class PoolText(unittest.TestCase):
         pool = parse_pool("10: 4294967295, 0xFFFFFFFF, 0xffffffff, 0", "file")
         self.assertEqual(pool, Pool((Record(10, (0, 0, 0, 0)),)))
         self.assertEqual(write_pool(pool), "10: nil, nil, nil, nil\n")
-        said = "is no address: it is the end mark, so nil, where no record can be"
-        check_rows(self, [(f"10: 20\n‸{mark}: 1", f"{mark} {said}") for mark in ("4294967295", "0xFFFFFFFF", "0x0ffffffff")], parse_pool)
+        said = "is no address: it is the end mark, so nil, where no record can be; correct it, or leave the line out"
+        check_rows(self, [(f"10: 20\n‸{mark}: 1", f"{mark} {said}") for mark in ("4294967295", "0xFFFFFFFF", "0x0ffffffff", "FFFFFFFF", "ffffffff")], parse_pool)
 
     def test_written(self) -> None:
         self.assertEqual(write_pool(Pool((Record(10, (20, 0)), Record(20, ())))), "10: 20, nil\n20: ()\n")
@@ -138,7 +138,7 @@ class PoolText(unittest.TestCase):
         check_rows(self, [(text + "‸17: 1", "this is a seventeenth record: a pool has at most 16 records")], parse_pool)
 
     def test_thousands_of_digits(self) -> None:
-        message = "9999999999999999999999999999999999999... is too large: a value is at most 4,294,967,294 (0xFFFFFFFE)"
+        message = "9999999999999999999999999999999999999... is too large: a value is at most 4,294,967,294 (0xFFFFFFFE), and 0xFFFFFFFF is nil"
         check_rows(self, [("10: ‸" + "9" * 5000, message)], parse_pool)
 
     def test_mistakes(self) -> None:

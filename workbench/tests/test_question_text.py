@@ -30,7 +30,7 @@ MISTAKES = [
     ("ring(10) ‸ring(20)", "ring follows the question: ask one question, and write nothing after it"),
     ("‸", "a question begins with a predicate: write one such as segment(10, 20)"),
     ("‸10", "a question begins with a predicate: write one such as segment(10, 20)"),
-    ("ring(‸4294967296)", "4294967296 is too large: a value is at most 4,294,967,294 (0xFFFFFFFE)"),
+    ("ring(‸4294967296)", "4294967296 is too large: a value is at most 4,294,967,294 (0xFFFFFFFE), and 0xFFFFFFFF is nil"),
     ("ring(10)‸);", ") follows the question: ask one question, and write nothing after it"),
     ("ring(10 ‸20)", ", is missing before 20: write , between values and ) after the last"),
     ("ring(‸(10))", "a value is missing before (: write a number or nil"),

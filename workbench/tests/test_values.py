@@ -19,7 +19,7 @@ class Values(unittest.TestCase):
         self.assertEqual(value("0x" + "0" * 5000 + "1"), 1)
 
     def test_mistakes(self) -> None:
-        most = "is too large: a value is at most 4,294,967,294 (0xFFFFFFFE)"
+        most = "is too large: a value is at most 4,294,967,294 (0xFFFFFFFE), and 0xFFFFFFFF is nil"
         rows = [
             ("‸4294967296", f"4294967296 {most}"),
             ("‸0x100000000", f"0x100000000 {most}"),
