@@ -79,13 +79,19 @@ constantRows =
     ∷ record { book = bookC; snapshot = 1 ∷ node 10 1; question = 0 ∷ 1 ∷ four 10; fits = false; facts = 0; rounds = 0; lines = 0; last = [] }
     ∷ []
 
--- And two with the end mark. The segment from 10 to nil, written as the mark in field and question: the kept values are 0, 1, 2, 3, 10, and
+-- And four about the end mark. The segment from 10 to nil, written as the mark in field and question: the kept values are 0, 1, 2, 3, 10, and
 -- the last fact is that of the record. Book N has the mark for a constant: P(a), for any a, if the constant is nil. Kept are 0 and a spare.
+-- FFFFFFFE is a number like others, as a field and as an address: kept are 0, 1, 2, 3, 10 and this one, with position 5.
 abbrev pub bookN : List ℕ
 bookN = 1 ∷ 1 ∷ 1 ∷ (asMark ++ (1 ∷ 0 ∷ 0 ∷ 1 ∷ 0 ∷ 128 ∷ 255 ∷ 0 ∷ 0 ∷ []))
+
+abbrev pub belowMark : List ℕ
+belowMark = 254 ∷ 255 ∷ 255 ∷ 255 ∷ []
 
 abbrev pub markRows : List Row
 markRows =
     record { book = bookL; snapshot = 1 ∷ (four 10 ++ (1 ∷ asMark)); question = 0 ∷ 2 ∷ (four 10 ++ asMark); fits = true; facts = 6; rounds = 2; lines = 2; last = 262145 ∷ [] }
     ∷ record { book = bookN; snapshot = 0 ∷ []; question = 0 ∷ 1 ∷ four 0; fits = true; facts = 2; rounds = 1; lines = 1; last = 65536 ∷ [] }
+    ∷ record { book = bookL; snapshot = 1 ∷ (four 10 ++ (1 ∷ belowMark)); question = 0 ∷ 2 ∷ (four 10 ++ belowMark); fits = true; facts = 7; rounds = 2; lines = 2; last = 42205185 ∷ [] }
+    ∷ record { book = bookL; snapshot = 1 ∷ (belowMark ++ (1 ∷ four 10)); question = 0 ∷ 2 ∷ (belowMark ++ four 10); fits = true; facts = 7; rounds = 2; lines = 2; last = 33882113 ∷ [] }
     ∷ []
