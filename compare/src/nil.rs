@@ -7,7 +7,7 @@ use crate::random::Dice;
 /// Read as 0, and no address.
 pub const END_MARK: u32 = u32::MAX;
 
-/// The largest number that is one, and the largest address.
+/// The largest number that is read as itself, and the largest address.
 pub const LARGEST: u32 = END_MARK - 1;
 
 pub fn as_read(number: u32) -> u32 {
