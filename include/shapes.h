@@ -12,6 +12,8 @@
  * Of shapes_decide and shapes_part alone:
  *  10 the memory does not fit together: a table is 1 to 65,535 words long, and the space three times that
  *  11 there are more facts than the table has words
+ * Of shapes_walk alone, after 1 to 9:
+ *  12 the book is not plain
  * README.md says what to do about each, docs/FORMAT.md has the bytes of book, snapshot and question and the words of table and space.
  * A book has a section of constants after its argument counts, a 00 if there is none. One from before constants came gains that byte:
  * without it most are refused with 1 to 4, but a short one may be read as another book.
@@ -20,7 +22,7 @@
  * Lengths count bytes, or words of 64 bits. Nothing is allocated or kept, and nothing outside what is lent is read or written. A block of
  * length 0 may have any pointer that is not null and is aligned for its type; no two blocks that are written may overlap each other or one
  * that is read. The calls share nothing, so several threads may call them at once, each with memory of its own. On the stack
- * shapes_decide uses 4,400 bytes, shapes_part 4,432, either check 2,600 and shapes_walk 8,272, the most with tables of 1,024 and of
+ * shapes_decide uses 4,400 bytes, shapes_part 4,432, either check 2,600 and shapes_walk 8,792, the most with tables of 1,024 and of
  * 65,535 words and with 16 records one below the other, measured by compare/memory.sh.
  */
 #ifndef SHAPES_H
@@ -58,10 +60,10 @@ uint64_t shapes_check_part(const uint8_t *book, size_t book_len, const uint8_t *
                            const uint8_t *question, size_t question_len,
                            uint16_t part, const uint64_t *words, size_t words_len, uint64_t *taken);
 
-/* The quick walk, for plain books: it is lent no table and no space, unfolds the question from the top and has only a verdict, after
- * refusals 1 to 9. Verdict 1 is right for every book. Without a refusal, 0 says for a plain book that the heap does not fit; for any other
- * book it says nothing, and shapes_decide has to be asked. A rule with calls and no cell is never unfolded. The walk does not test whether
- * the book is plain: README.md, "Plain books, quickly", says which books are. */
+/* The quick walk, for plain books: it is lent no table and no space, unfolds the question from the top and has only a verdict. Once all is
+ * read it tests whether the book is plain, and refuses any other with 12: then shapes_decide has to be asked. Without a refusal the verdict
+ * says whether the whole heap fits (1) or does not (0), as that of shapes_decide does. README.md, "Plain books, quickly", says which books
+ * are plain. */
 uint64_t shapes_walk(const uint8_t *book, size_t book_len, const uint8_t *snapshot, size_t snapshot_len,
                      const uint8_t *question, size_t question_len, uint64_t *verdict);
 

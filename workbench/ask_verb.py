@@ -21,7 +21,7 @@ def _parser() -> ArgumentParser:
         "BOOK POOL [POOL ...] QUESTION [--part | --walk] [--json] [--save FILE]",
         "Says whether a pool fits: with an unfolding where it does, with hints on where to look where it does not.\n"
         "With --part, whether some part of its records does, and which one. With --walk, the verdict of the quick walk alone;\n"
-        "its no for a book that is not plain is `not answered`. Status 0: every pool fits, or a part of each; 1: some do not;\n"
+        "for a book that is not plain the pool is `not answered`. Status 0: every pool fits, or a part of each; 1: some do not;\n"
         "2: a refusal, `not answered`, or something cannot be read or written.",
         "./shapes ask examples/segment.book examples/segment.pool 'segment(10, nil)'",
     )

@@ -19,6 +19,9 @@ FITS = "fits"
 DOES_NOT_FIT = "does not fit"
 REFUSED = "refused"
 NOT_ANSWERED = "not answered"
+# The refusal of a book that is not plain, and what is said where the workbench's own test finds no reason for it.
+NOT_PLAIN = 12
+NO_REASON = "the library and the workbench do not agree on this book: they are not of one version"
 
 
 @dataclass(frozen=True)
@@ -39,8 +42,8 @@ class Asked:
 @dataclass(frozen=True)
 class Answer:
     """`lines` are there where the pool or a part fits by the engine, `hints` where neither does, and `detail` where bytes are refused: the
-    first at fault. `part` is the one that fits, where some part was asked about. `not_plain` is there where the walk's no means nothing:
-    why the book is not plain."""
+    first at fault. `part` is the one that fits, where some part was asked about. `not_plain` is there where the walk refuses a book that is
+    not plain: why it is not."""
 
     asked: Asked
     reply: library.Reply
@@ -53,22 +56,19 @@ class Answer:
     @property
     def kind(self) -> str:
         if self.reply.refusal:
-            return REFUSED
-        if self.not_plain:
-            return NOT_ANSWERED
+            return NOT_ANSWERED if self.not_plain else REFUSED
         return FITS if self.reply.verdict else DOES_NOT_FIT
 
 
 def ask(asked: Asked) -> Answer:
     reply = _reply(asked)
+    if reply.refusal == NOT_PLAIN and asked.book is not None:
+        return Answer(asked, reply, not_plain=not_plain(asked.book) or NO_REASON)
     if reply.refusal:
         return Answer(asked, reply, detail=detail(asked))
     if asked.book is None or asked.pool is None or asked.question is None:
         raise Mistake("the library reads what the workbench could not: they are not of one version")
     if not reply.verdict:
-        reason = not_plain(asked.book) if asked.by_walk else ""
-        if reason:
-            return Answer(asked, reply, not_plain=reason)
         return Answer(asked, reply, hints=(part_hints if asked.some_part else hints)(asked.pool, asked.question, asked.book.constants))
     if asked.by_walk:
         return Answer(asked, reply)

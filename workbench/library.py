@@ -67,8 +67,7 @@ def check(book: bytes, snapshot: bytes, question: bytes, words: Sequence[int], p
 
 
 def walk(book: bytes, snapshot: bytes, question: bytes) -> tuple[int, int]:
-    """The refusal, and 1 where the quick walk finds that the whole pool fits. It needs no table. Its 0 says that the pool does not fit only
-    where the book is plain."""
+    """The refusal, 12 for a book that is not plain, and 1 where the quick walk finds that the whole pool fits. It needs no table."""
     verdict = ctypes.c_uint64()
     refusal = _call(_loaded().shapes_walk, _blocks(book, snapshot, question) + [ctypes.byref(verdict)])
     return refusal, verdict.value

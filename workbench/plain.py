@@ -1,6 +1,5 @@
-"""Whether a book is plain: a rule that calls has a cell too, no variable is left to guess, and no arguments meet the conditions of two rules. For a
-plain book a no of the quick walk says that the pool does not fit; for another it says nothing. This test is the workbench's own and not
-proved, and the walk does not make it."""
+"""Why a book is not plain: a rule that calls has no cell, a variable is left to guess, or some arguments meet the conditions of two rules. The
+quick walk tests the same, proved, and refuses such a book with 12; this test is the workbench's own, and finds the words."""
 
 from collections.abc import Iterable, Iterator
 from itertools import chain, combinations, count

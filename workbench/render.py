@@ -1,5 +1,5 @@
-"""Answers as text for people. What it says of verdict, part and tree is the library's; hints and whether a book is plain are the workbench's
-own, and it says so."""
+"""Answers as text for people. What it says of verdict, part and tree is the library's; hints and the reason why a book is not plain are the
+workbench's own, and it says so."""
 
 from collections.abc import Iterable
 
@@ -30,13 +30,10 @@ CODES_NOT_COMPARED = "No hint compares type codes: see whether each record has t
 NO_FIND = "the question holds without any record, which says nothing about the pool; a shape that needs a record tells more"
 LARGER = "larger parts may fit as well; whether all records do is asked without --part"
 WALK_YES = "The walk gives no unfolding to show or to save. To have one, ask the engine:"
-WALK_NO = (
-    "The walk's no holds if the book is plain. The workbench finds that it is, by a test of its own that is not proved.",
-    "The engine needs no such test:",
-)
+WALK_NO = ("The walk's no is as strong as the engine's, since it refuses a book that is not plain. To ask the engine all the same:",)
 WALK_NOT_ANSWERED = (
-    " may fit or not: the walk found no unfolding, which means nothing for a book that is not plain.",
-    "The workbench finds that this one is not, by a test of its own that is not proved:",
+    " may fit or not: the walk answers for plain books alone, and refuses this one (refusal 12).",
+    "Why it is not plain, in the workbench's own words:",
 )
 ASK_THE_ENGINE = "To ask the engine:"
 WHAT_IS_PLAIN = "README.md, Plain books, quickly, says what a plain book is."

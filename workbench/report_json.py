@@ -44,7 +44,7 @@ def result(pool_name: str, answer: Answer, found: Answer | None = None) -> dict:
     refusal = answer.reply.refusal
     message = "\n".join(filter(None, (sentence(refusal, answer.asked.some_part), answer.detail))) if refusal else ""
     if answer.kind == NOT_ANSWERED:
-        message = "the pool may fit or not: the walk found no unfolding, which means nothing for a book that is not plain: " + answer.not_plain
+        message = f"the pool may fit or not: {sentence(refusal)}: {answer.not_plain}"
     return {
         "pool": _unicode(pool_name),
         "answer": answer.kind,

@@ -7,6 +7,7 @@ use crate::judge::{self, Expected, Table};
 use crate::lent::{self, Manner, Sizes, AROUND};
 use crate::nil;
 use crate::parts;
+use crate::trying;
 use crate::twins::{Asked, Replies};
 use crate::unfoldings::words_of;
 use crate::walk;
@@ -99,11 +100,13 @@ fn walk(input: &Input, expected: &walk::Expected, manner: Manner) {
     let walked = lent::walk(input, manner);
     println!("shapes_walk");
     println!(
-        "  reference refusal {}, plain {}, engine {:?}, walk {:?}",
-        expected.refusal(),
-        expected.plain,
-        expected.engine,
-        expected.answer()
+        "  reference refusal {} verdict {}, engine {:?}",
+        expected.reply.refusal, expected.reply.verdict, expected.engine
+    );
+    println!(
+        "  plain     against it {:?}, by trying {:?}",
+        expected.faults,
+        trying::faults(&input.book)
     );
     match walk::judged(input, expected, &walked) {
         Ok(yes) => println!("  proved    right, with verdict {}", yes as u32),

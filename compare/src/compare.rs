@@ -10,6 +10,7 @@ use crate::patience;
 use crate::random::Dice;
 use crate::sizes;
 use crate::tally::Tally;
+use crate::trying;
 use crate::twins::{self, Replies};
 use crate::unfoldings::{bytes_of, lines_of, words_of, Line};
 use crate::walk;
@@ -51,6 +52,8 @@ pub struct Comparer {
     thin: u64,
     turns: u64,
     decided: u64,
+    /// Of the last walk.
+    last_book: Vec<u8>,
     pub inputs: u64,
     pub differences: u64,
     pub tally: Tally,
@@ -98,6 +101,7 @@ impl Comparer {
             thin,
             turns: 0,
             decided: 0,
+            last_book: Vec::new(),
             inputs: 0,
             differences: 0,
             tally: Tally::default(),
@@ -132,7 +136,7 @@ impl Comparer {
         let reply = outcome.reply;
         self.desk_decide(input, reply);
         let both = self.lend_both(input, Sizes::OWN, reply, Table::of(&outcome));
-        self.walk(input, reply);
+        self.walk(input, Some(reply));
         self.counted();
         let Some(both) = both else {
             return Decided::default();
@@ -215,7 +219,7 @@ impl Comparer {
     pub fn decide_lent(&mut self, input: &Input, sizes: Sizes) -> Option<Reply> {
         let outcome = self.reference(input, sizes)?;
         self.lend_both(input, sizes, outcome.reply, Table::of(&outcome));
-        self.walk(input, outcome.reply);
+        self.walk(input, Some(outcome.reply));
         self.tally.lent.other_sizes += 1;
         self.counted();
         Some(outcome.reply)
@@ -258,6 +262,7 @@ impl Comparer {
         let words = answer.table.lent();
         let parts = parts::fitting(input, &words[..reply.facts]);
         self.whole_among(input, reply, &parts);
+        self.one_part_each(input, &words[..reply.facts]);
         let table = match table {
             Table::AsFound => Table::AsFound,
             _ => Table::Words(words),
@@ -277,6 +282,18 @@ impl Comparer {
         if among != (reply.verdict == 1) {
             let what = "the reference's verdict and its parts";
             self.other_number(call(what, input), number(reply), among as u64);
+        }
+    }
+
+    /// For a plain book, no predicate with the same values has two parts.
+    fn one_part_each(&mut self, input: &Input, facts: &[u64]) {
+        if walk::one_part_each(facts) {
+            return;
+        }
+        if api::plain_book(&input.book) == Ok(true) {
+            let what = "the facts of a plain book";
+            let wrong = "two of them differ in their records alone";
+            self.wrong(call(what, input), wrong);
         }
     }
 
@@ -332,23 +349,49 @@ impl Comparer {
         self.tally.parts.not_for_another += (expected.1 == 0) as u64;
     }
 
-    /// The walk, on an input to which the engine replies so.
-    fn walk(&mut self, input: &Input, reply: Reply) {
+    /// The walk, and not the engine.
+    pub fn walk_alone(&mut self, input: &Input) {
+        self.walk(input, None);
+        self.counted();
+    }
+
+    /// The walk, on an input to which the engine replies so if it was asked.
+    fn walk(&mut self, input: &Input, reply: Option<Reply>) {
         let manner = self.manner();
         let before = Instant::now();
         let walked = lent::walk(input, manner);
         self.tally.walk.saw(before.elapsed(), input, Sizes::OWN);
-        let expected = walk::Expected::of(input, reply);
+        let expected = match reply {
+            Some(reply) => walk::Expected::of(input, reply),
+            None => walk::Expected::without_engine(input),
+        };
         match walk::judged(input, &expected, &walked) {
             Ok(yes) => {
                 self.tally.walks.saw(&expected, yes);
                 self.tally.constants.walked(input, &expected, yes);
+                self.tried(input, &expected);
             }
             Err(wrong) => {
                 let call = call("shapes_walk", input);
                 self.wrong(call.lent(Sizes::OWN, manner.dirt), &wrong);
             }
         }
+    }
+
+    /// The book by the reference's trying, unless it is that of the last walk.
+    fn tried(&mut self, input: &Input, expected: &walk::Expected) {
+        if expected.faults.is_none() || input.book == self.last_book {
+            return;
+        }
+        self.last_book = input.book.clone();
+        let tried = trying::faults(&input.book);
+        if tried.is_some() && tried != expected.faults {
+            let what = "the reference's two ways to see that a book is plain";
+            let wrong = format!("{:?} and {tried:?}", expected.faults);
+            self.wrong(call(what, input), &wrong);
+        }
+        let tried = tried.is_some();
+        self.tally.books.saw(input, expected, tried);
     }
 
     /// Dirt of any kind.
@@ -469,7 +512,7 @@ impl Comparer {
     pub fn kept(&mut self, input: &Input, reply: Reply, print: u64) {
         self.desk_decide(input, reply);
         self.lend_both(input, Sizes::OWN, reply, Table::Kept(print));
-        self.walk(input, reply);
+        self.walk(input, Some(reply));
         self.counted();
         if reply.facts > 1 {
             let full = Reply {
@@ -494,7 +537,7 @@ impl Comparer {
         if self.program.is_some() {
             let bytes = pieces.concat();
             let reply = api::bench_reply(&bytes);
-            self.walk(&Input::of_program(&bytes), reply);
+            self.walk(&Input::of_program(&bytes), Some(reply));
             self.program_replies(pieces, reply);
         }
     }

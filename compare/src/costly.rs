@@ -36,6 +36,9 @@ pub fn made() -> Vec<(&'static str, Input)> {
             "plain-tree-to-marks",
             nil::spelt(&tree_of_three(), END_MARK),
         ),
+        ("plain-test-pairs", test_pairs(false)),
+        ("not-plain-at-the-end", test_pairs(true)),
+        ("plain-test-never-met", test_never_met()),
     ]
 }
 
@@ -472,4 +475,43 @@ fn tree_of_three() -> Input {
 /// Each record has the next one below it three times.
 fn ladder() -> Input {
     three_below(|address| [address + 1; 3])
+}
+
+/// What tells the rules apart that the test of plain books goes through; the
+/// last two are the third and the fourth again.
+const TOLD: [u32; 6] = [10, 20, 30, 40, 30, 40];
+
+/// Sixteen rules of one predicate, each with a chain from both arguments to a
+/// constant. Only the last two conditions tell two rules apart. If so asked, the
+/// last rule is the one before it with the constants by their other names.
+fn test_pairs(last_again: bool) -> Input {
+    let mut rules = Vec::new();
+    for number in 0..MOST_RULES {
+        let (one, other) = match number {
+            15 if last_again => (5, 4),
+            _ => (number / 4, number % 4),
+        };
+        let rule = Rule::new(0, 6).equal(4, 3).equal(7, 6);
+        let rule = rule.equal(3, 2).equal(6, 5).equal(2, 0).equal(5, 1);
+        let rule = rule.equal(4, constant(one)).equal(7, constant(other));
+        rules.push(rule.cell(0, &[1, 4, 7, 1]));
+    }
+    let book = Book::new(&[2], rules).with_constants(&TOLD);
+    let last = if last_again { 30 } else { 40 };
+    let heap = Heap::default().with(40, &[last, 40, last, last]);
+    Input::new(&book, &heap, &Query::new(0, &[40, last]))
+}
+
+/// Sixteen rules of no arguments that can never be met: a chain from a constant
+/// through seven variables, last link first, and the other end is not that
+/// constant. Each fixes one variable at a time, the last one by a cell.
+fn test_never_met() -> Input {
+    let mut never = Rule::new(0, 8);
+    for variable in (0..6).rev() {
+        never = never.equal(variable + 1, variable);
+    }
+    let never = never.equal(0, constant(0)).unequal(6, constant(0));
+    let never = never.cell(7, &[7; 4]).cell(6, &[7; 4]);
+    let book = Book::new(&[0], vec![never; MOST_RULES]).with_constants(&TOLD);
+    Input::new(&book, &apart(MOST_APART), &Query::new(0, &[]))
 }

@@ -1,4 +1,4 @@
-//! Books that are not quite plain: each misses one of the three sentences, in
+//! Books that are not quite plain: each misses one of the three conditions, in
 //! most cases without a change to what fits.
 
 use crate::generate;
@@ -8,7 +8,7 @@ use crate::shapes::Shape;
 
 type Miss = fn(&mut Dice, &mut Shape) -> Option<()>;
 
-/// By the sentence: a rule with calls has a cell, a variable is fixed, no two
+/// By the condition: a rule with calls has a cell, a variable is fixed, no two
 /// rules of a predicate can be met together.
 const MISSES: [&[Miss]; 3] = [
     &[by_a_name, by_a_name_unasked, by_way_of],
@@ -16,7 +16,7 @@ const MISSES: [&[Miss]; 3] = [
     &[condition_less, rule_twice, always],
 ];
 
-/// The same for the third sentence, for books with constants.
+/// The same for the third condition, for books with constants.
 const CONSTANT_MISSES: [Miss; 2] = [same_constants, constant_nil];
 
 /// One of each, where there is one.

@@ -52,7 +52,7 @@ pub fn shape(dice: &mut Dice, size: usize) -> Shape {
 }
 
 /// What lies around a shape: its pool damaged, another question, and books that
-/// miss one of the three sentences about plain ones.
+/// miss one of the three conditions of plain ones.
 pub fn around(comparer: &mut Comparer, dice: &mut Dice, shape: &Shape) {
     let Shape { book, heap, query } = shape;
     for heap in damaged(dice, shape) {

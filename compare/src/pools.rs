@@ -12,6 +12,7 @@ use crate::input::{Book, Heap, Input, Query, MOST_RECORDS};
 use crate::mutate;
 use crate::nil;
 use crate::plain;
+use crate::plainness;
 use crate::random::Dice;
 use crate::shapes::{self, Shape};
 use crate::sizes;
@@ -65,7 +66,7 @@ const FIXED: [Pool; 6] = [
 ];
 
 /// Those that may be repeated with other numbers.
-const RANDOM: [Pool; 10] = [
+const RANDOM: [Pool; 11] = [
     Pool {
         name: "usual shapes",
         program_share: 20,
@@ -105,6 +106,11 @@ const RANDOM: [Pool; 10] = [
         name: "small plain books",
         program_share: 150,
         run: split::run,
+    },
+    Pool {
+        name: "plain or not",
+        program_share: 500,
+        run: plainness::run,
     },
     Pool {
         name: "constants",

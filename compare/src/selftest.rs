@@ -8,6 +8,7 @@ use crate::judge::{self, Expected, Table};
 use crate::lent::{self, About, Answer, Block, Checked, Manner, Sizes, AROUND};
 use crate::nil_test;
 use crate::parts;
+use crate::plain_test;
 use crate::unfoldings::{lines_of_words, with_copies, Line};
 use crate::walk_test;
 use reference::api::{self, Memory};
@@ -415,6 +416,8 @@ pub fn run() -> bool {
     missed.extend(by_constants);
     let (by_nil, of_nil) = nil_test::missed();
     missed.extend(by_nil);
+    let (by_plain, of_plain) = plain_test::missed();
+    missed.extend(by_plain);
     let by_hand = [books::small(), books::plain()].concat();
     if by_hand
         .iter()
@@ -426,7 +429,7 @@ pub fn run() -> bool {
         println!("self-test: not told apart: {name}");
     }
     let altered = ALTERED.len() + PART_ALTERED.len() + CHECK_ALTERED.len() + walk_test::COUNT;
-    let altered = altered + of_constants + of_nil;
+    let altered = altered + of_constants + of_nil + of_plain;
     println!(
         "self-test: {altered} altered answers, {} mistakes",
         missed.len()

@@ -43,7 +43,7 @@ fn random_pool(dice: &mut Dice, book: &Book, records: usize) -> (Heap, Query) {
     (heap, query)
 }
 
-fn book(dice: &mut Dice) -> Book {
+pub fn book(dice: &mut Dice) -> Book {
     let predicates = dice.between(1, 3);
     let arity = |dice: &mut Dice| dice.weighted(&[5, 45, 35, 10, 5]) as u8;
     let arities: Vec<u8> = (0..predicates).map(|_| arity(dice)).collect();

@@ -2,10 +2,11 @@
 
 use crate::constant_use::{ConstantUse, Fault};
 use crate::differences::call;
-use crate::input::{Input, MOST_RECORDS};
+use crate::input::Input;
 use crate::lent::Sizes;
 use crate::nil_tally::Nils;
-use crate::walk::Expected;
+use crate::plain_tally::Books;
+use crate::walk::{Engine, Expected};
 use reference::api::{self, Reply};
 use reference::domain::Domain;
 use reference::formats;
@@ -24,6 +25,7 @@ pub struct Tally {
     pub lent: Lent,
     pub parts: Parts,
     pub walks: Walks,
+    pub books: Books,
     pub constants: Constants,
     pub nils: Nils,
     pub proved: Slowest,
@@ -187,60 +189,81 @@ impl Parts {
 pub struct Walks {
     /// By the refusal, from 1.
     refused: [u64; 9],
+    /// Refused too, with a book that is not plain: the snapshot, the question.
+    snapshot_before: u64,
+    question_before: u64,
+    /// The book misses one condition alone, or several.
+    missed_one: [u64; 3],
+    missed_several: u64,
+    /// Not plain, and the pool fits, or it does not.
+    other_fits: u64,
+    other_does_not: u64,
     plain_yes: u64,
     plain_no: u64,
+    /// No, and some other part fits.
+    plain_part: u64,
     /// All records there may be, by a plain book.
     full_pool: u64,
     /// A yes by a plain book, where the engine has no room to say so.
     unknown: u64,
-    other_yes: u64,
-    /// Not plain: a no where the engine has a yes, and any other no.
-    other_no: u64,
-    other_neither: u64,
-    /// The pool fits, and the book keeps two of the three sentences.
-    nearly: [u64; 3],
 }
 
 impl Walks {
     pub fn saw(&mut self, expected: &Expected, yes: bool) {
-        let refusal = expected.refusal() as usize;
-        if refusal > 0 {
-            self.refused[refusal - 1] += 1;
-            return;
-        }
-        let fits = expected.engine == Some(true);
-        match (expected.plain, yes) {
-            (true, true) => {
-                self.plain_yes += 1;
-                self.full_pool += (expected.records() == MOST_RECORDS) as u64;
-                self.unknown += expected.engine.is_none() as u64;
-            }
-            (true, false) => self.plain_no += 1,
-            (false, true) => self.other_yes += 1,
-            (false, false) if fits => self.other_no += 1,
-            (false, false) => self.other_neither += 1,
-        }
-        if fits && !expected.plain {
-            match expected.sentences() {
-                Some([false, true, true]) => self.nearly[0] += 1,
-                Some([true, false, true]) => self.nearly[1] += 1,
-                Some([true, true, false]) => self.nearly[2] += 1,
-                _ => {}
+        match expected.reply.refusal {
+            0 => self.answered(expected, yes),
+            12 => self.not_plain(expected),
+            refusal => {
+                let other = !expected.missed().is_empty();
+                self.refused[refusal as usize - 1] += 1;
+                self.snapshot_before += (other && refusal < 9) as u64;
+                self.question_before += (other && refusal == 9) as u64;
             }
         }
     }
 
-    fn kinds(&self) -> [(&'static str, u64); 9] {
+    fn answered(&mut self, expected: &Expected, yes: bool) {
+        let part = expected.parts.as_ref().and_then(|parts| parts.first());
+        if yes {
+            self.plain_yes += 1;
+            self.full_pool += (part == Some(&u16::MAX)) as u64;
+            self.unknown += (expected.engine == Engine::Refuses) as u64;
+        } else {
+            self.plain_no += 1;
+            self.plain_part += part.is_some() as u64;
+        }
+    }
+
+    fn not_plain(&mut self, expected: &Expected) {
+        match expected.missed()[..] {
+            [one] => self.missed_one[one - 1] += 1,
+            _ => self.missed_several += 1,
+        }
+        match expected.engine {
+            Engine::Says(true) => self.other_fits += 1,
+            Engine::Says(false) => self.other_does_not += 1,
+            _ => {}
+        }
+    }
+
+    fn kinds(&self) -> [(&'static str, u64); 13] {
         [
             ("plain and yes", self.plain_yes),
             ("plain and no", self.plain_no),
+            ("plain and no, but another part fits", self.plain_part),
             ("plain and yes with 16 records", self.full_pool),
             ("plain and yes where the engine refuses", self.unknown),
-            ("not plain and yes", self.other_yes),
-            ("not plain and no where the engine says yes", self.other_no),
-            ("not plain for calls without a cell", self.nearly[0]),
-            ("for a variable that is not fixed", self.nearly[1]),
-            ("for rules that do not exclude each other", self.nearly[2]),
+            ("12 for calls without a cell alone", self.missed_one[0]),
+            ("12 for a variable not fixed alone", self.missed_one[1]),
+            (
+                "12 for rules that can be met together alone",
+                self.missed_one[2],
+            ),
+            ("12 for several of these", self.missed_several),
+            ("12 where the engine says yes", self.other_fits),
+            ("12 where it says no", self.other_does_not),
+            ("9 for a book that is not plain", self.question_before),
+            ("5 to 8 for such a book", self.snapshot_before),
         ]
     }
 
@@ -250,10 +273,7 @@ impl Walks {
 
     fn print(&self) {
         println!("walk: {}", list(&self.kinds()));
-        println!(
-            "walk refused, 1 to 9: {:?}; not plain and no otherwise {}",
-            self.refused, self.other_neither
-        );
+        println!("walk refused, 1 to 9: {:?}", self.refused);
     }
 }
 
@@ -340,11 +360,11 @@ impl Constants {
 
     pub fn walked(&mut self, input: &Input, expected: &Expected, yes: bool) {
         let used = ConstantUse::of(&input.book);
-        if expected.refusal() > 0 || used.named.is_empty() {
+        if !matches!(expected.reply.refusal, 0 | 12) || used.named.is_empty() {
             return;
         }
         let constants = used.constants.len();
-        if expected.plain {
+        if expected.plain() {
             self.plain_yes += yes as u64;
             self.plain_no += !yes as u64;
             let same = with_constants(&input.book, &vec![1; constants]);
@@ -426,6 +446,7 @@ impl Tally {
             .chain(self.parts.checked_kinds())
             .chain(self.walks.kinds())
             .chain(self.walks.refusals())
+            .chain(self.books.kinds())
             .chain(self.constants.kinds())
             .chain(self.nils.kinds());
         let few = kinds.filter(|&(_, count)| count < enough);
@@ -449,6 +470,7 @@ impl Tally {
         self.lent.print();
         self.parts.print();
         self.walks.print();
+        println!("books walked: {}", list(&self.books.kinds()));
         self.constants.print();
         println!("nil: {}", list(&self.nils.kinds()));
         self.proved.print("proved");

@@ -1,66 +1,67 @@
-//! Whether an answer of the walk is right: by the reference's ladder, by the
-//! engine's verdict, and by the reference's own walk.
+//! Whether an answer of the walk is right: by the reference's walk, by the
+//! engine's verdict, and by the parts that fit.
 
 use crate::input::Input;
 use crate::judge::says;
 use crate::lent::Walked;
-use reference::api::{self, Reply};
-use reference::formats::{self, Problem, RuleSet};
-use reference::plain;
-use reference::walk::{self, Answer, BUDGET};
+use reference::api::{self, Reply, WalkReply};
+use reference::formats;
+use reference::plain::Fault;
+use reference::walk;
 
-/// The reference's walk may try that much for a book that is not plain, where it
-/// may need very long.
-const SMALLER_BUDGET: u64 = 30_000;
+/// What the engine says of the whole pool.
+#[derive(Clone, Copy, Debug, PartialEq, Eq)]
+pub enum Engine {
+    NotAsked,
+    Refuses,
+    Says(bool),
+}
 
 /// What the reference knows of an input before it is walked.
 pub struct Expected {
-    /// What was read, or the refusal.
-    read: Result<Problem, u32>,
-    pub plain: bool,
-    /// The verdict about the whole pool, unless the engine refuses.
-    pub engine: Option<bool>,
+    pub reply: WalkReply,
+    /// What keeps the book from being plain, where it can be read.
+    pub faults: Option<Vec<Fault>>,
+    /// The parts that fit, where there is a verdict.
+    pub parts: Option<Vec<u16>>,
+    pub engine: Engine,
 }
 
 impl Expected {
     /// Of an input to which the engine replies so, on memory of any size.
     pub fn of(input: &Input, reply: Reply) -> Expected {
-        let [book, snapshot, question] = input.sections();
-        let read = formats::read(book, snapshot, question);
+        let engine = match reply.refusal {
+            0 => Engine::Says(reply.verdict == 1),
+            _ => Engine::Refuses,
+        };
         Expected {
-            read: read.map_err(|refusal| refusal.number()),
-            plain: api::plain_book(book) == Ok(true),
-            engine: (reply.refusal == 0).then_some(reply.verdict == 1),
+            engine,
+            ..Expected::without_engine(input)
         }
     }
 
-    pub fn refusal(&self) -> u32 {
-        self.read.as_ref().err().copied().unwrap_or(0)
+    pub fn without_engine(input: &Input) -> Expected {
+        let [book, snapshot, question] = input.sections();
+        let problem = formats::read(book, snapshot, question).ok();
+        Expected {
+            reply: api::walk(book, snapshot, question),
+            faults: api::plain_faults(book).ok(),
+            parts: problem.and_then(|problem| walk::fitting_parts(&problem).ok()),
+            engine: Engine::NotAsked,
+        }
     }
 
-    pub fn records(&self) -> usize {
-        let problem = self.read.as_ref().ok();
-        problem.map_or(0, |problem| problem.heap.records.len())
+    pub fn plain(&self) -> bool {
+        self.faults.as_ref().is_some_and(Vec::is_empty)
     }
 
-    /// Which of the three sentences about plain books this one keeps.
-    pub fn sentences(&self) -> Option<[bool; 3]> {
-        let rules: &RuleSet = &self.read.as_ref().ok()?.rules;
-        Some([
-            plain::consuming(rules),
-            plain::variables_fixed(rules),
-            plain::exclusive(rules),
-        ])
-    }
-
-    /// The reference's own walk, if there is something to walk.
-    pub fn answer(&self) -> Option<Answer> {
-        let budget = match self.plain {
-            true => BUDGET,
-            false => SMALLER_BUDGET,
-        };
-        let problem = self.read.as_ref().ok()?;
-        Some(walk::answer(problem, budget))
+    /// The conditions that the book misses, 1 to 3, each once.
+    pub fn missed(&self) -> Vec<usize> {
+        let faults = self.faults.iter().flatten();
+        let mut missed: Vec<usize> = faults.map(|fault| fault.condition()).collect();
+        missed.sort();
+        missed.dedup();
+        missed
     }
 }
 
@@ -70,40 +71,42 @@ pub fn judged(input: &Input, expected: &Expected, walked: &Walked) -> Result<boo
     says(kept, "a word beside the verdict was written")?;
     let same = walked.input == *input;
     says(same, "book, snapshot or question changed")?;
-    let (given, wanted) = (walked.refusal, expected.refusal() as u64);
-    let verdict = walked.verdict.lent()[0];
-    let numbers = format!("refusal {given} and verdict {verdict}; should be refusal {wanted}");
-    says(given == wanted, &numbers)?;
-    says(verdict == 0 || verdict == 1 && given == 0, &numbers)?;
-    let yes = verdict == 1;
-    if expected.plain {
-        plain_verdict(expected, yes)?;
-    } else if yes {
-        other_yes(expected)?;
-    }
-    Ok(yes)
-}
-
-/// For a plain book all verdicts are one.
-fn plain_verdict(expected: &Expected, yes: bool) -> Result<(), String> {
-    let (engine, answer) = (expected.engine, expected.answer());
-    let right = match answer {
-        None => true,
-        Some(Answer::OutOfBudget) => false,
-        Some(answer) => yes == (answer == Answer::Yes),
-    };
-    let wrong = format!(
-        "plain book, verdict {}; engine {engine:?}, reference's walk {answer:?}",
-        yes as u32
+    let WalkReply { refusal, verdict } = expected.reply;
+    let given = (walked.refusal, walked.verdict.lent()[0]);
+    let numbers = format!(
+        "refusal {} and verdict {}; should be {refusal} and {verdict}; against the book {:?}",
+        given.0, given.1, expected.faults
     );
-    says(right && engine.is_none_or(|engine| engine == yes), &wrong)
+    says(given == (refusal as u64, verdict as u64), &numbers)?;
+    agreed(expected)?;
+    Ok(verdict == 1)
 }
 
-/// For other books a yes holds, and uses no rule with calls but no cell: the
-/// reference's walk has none of these in its trees, and all others.
-fn other_yes(expected: &Expected) -> Result<(), String> {
-    let (engine, answer) = (expected.engine, expected.answer());
-    let right = engine != Some(false) && answer != Some(Answer::No);
-    let wrong = format!("yes, and not plain; engine {engine:?}, reference's walk {answer:?}");
-    says(right, &wrong)
+/// What the reference says in other ways: a verdict is given exactly for a
+/// plain book, it is the engine's, and at most one part fits.
+fn agreed(expected: &Expected) -> Result<(), String> {
+    let WalkReply { refusal, verdict } = expected.reply;
+    let plain = expected.plain();
+    let of_book = match refusal {
+        0 => plain,
+        1..=4 => expected.faults.is_none(),
+        12 => !plain && expected.faults.is_some(),
+        _ => expected.faults.is_some(),
+    };
+    let wrong = format!("refusal {refusal}, and plain is {plain}");
+    says(of_book, &wrong)?;
+    let other = Engine::Says(verdict == 0);
+    let wrong = format!("verdict {verdict}, and the engine says another");
+    says(refusal != 0 || expected.engine != other, &wrong)?;
+    let parts = expected.parts.as_deref().unwrap_or_default();
+    let wrong = format!("plain, and more than one part fits: {parts:?}");
+    says(parts.len() <= 1, &wrong)
+}
+
+/// Whether no two facts differ in their records alone, as in every table of a
+/// plain book.
+pub fn one_part_each(facts: &[u64]) -> bool {
+    let mut others: Vec<u64> = facts.iter().map(|fact| fact >> 16).collect();
+    others.sort();
+    others.windows(2).all(|two| two[0] != two[1])
 }

@@ -5,8 +5,8 @@ use crate::damage;
 use crate::input::{Book, Heap, Input, Query, Rule};
 use crate::lent::{self, Block, Sizes, Walked};
 use crate::selftest::MANNER;
-use crate::walk::{self, Expected};
-use reference::api;
+use crate::walk::{self, Engine, Expected};
+use reference::{api, plain};
 
 /// An input by what is known of it.
 #[derive(Clone, Copy, PartialEq)]
@@ -15,19 +15,22 @@ enum Way {
     PlainDoesNot,
     /// It fits, but the engine has too few lines to say so.
     PlainFull,
-    /// From here on the book is not plain: each answer is right.
+    /// From here on the book is not plain, and the walk says 12. It misses the
+    /// condition that rules exclude each other.
     OtherFits,
     OtherDoesNot,
-    /// It fits, by a rule with calls and no cell alone.
+    OtherFull,
+    /// That a rule with calls has a cell.
     CallsAlone,
-    CallsAloneFull,
-    /// It does not fit, and the reference's walk has not enough steps to say so.
-    Long,
+    /// That variables are fixed.
+    Open,
+    /// And then the question has a fault, so the walk says 9.
+    OtherFault,
     /// For each of the refusals.
     Fault(usize),
 }
 
-const WAYS: [Way; 8] = {
+const WAYS: [Way; 9] = {
     use Way::*;
     [
         PlainFits,
@@ -35,31 +38,38 @@ const WAYS: [Way; 8] = {
         PlainFull,
         OtherFits,
         OtherDoesNot,
+        OtherFull,
         CallsAlone,
-        CallsAloneFull,
-        Long,
+        Open,
+        OtherFault,
     ]
 };
 
 const FAULTS: usize = 9;
 
-/// Records 10 and 20, a chain to nil or a ring; or many that do for any cell,
-/// and one that does for none.
+/// Records 10 and 20, a chain to nil or a ring.
 fn heap(way: Way) -> Heap {
     match way {
-        Way::OtherFits | Way::OtherDoesNot => Heap::default().with(10, &[20]).with(20, &[10]),
-        Way::Long => (2..11).fold(Heap::default().with(1, &[]), |heap, address| {
-            heap.with(address, &[0])
-        }),
+        Way::OtherFits | Way::OtherDoesNot | Way::OtherFull | Way::OtherFault => {
+            Heap::default().with(10, &[20]).with(20, &[10])
+        }
         _ => Heap::default().with(10, &[20]).with(20, &[0]),
     }
 }
 
-/// Any records of one field, in any order.
-fn any_order() -> Book {
-    let more = Rule::new(0, 2).cell(0, &[1]);
-    let more = more.call(0, &[]).call(0, &[]).call(0, &[]);
-    Book::new(&[0], vec![Rule::new(0, 0), more])
+/// A further predicate, whose one rule has nothing but a call.
+fn calls_alone() -> Book {
+    let mut book = books::plain_segment();
+    book.arities.push(2);
+    book.rules.push(Rule::new(1, 0).call(0, &[0, 1]));
+    book
+}
+
+/// A variable more, which stands nowhere.
+fn open() -> Book {
+    let mut book = books::plain_segment();
+    book.rules[0].bound += 1;
+    book
 }
 
 fn asked(way: Way) -> (Input, Sizes) {
@@ -67,25 +77,24 @@ fn asked(way: Way) -> (Input, Sizes) {
     let (book, query) = match way {
         PlainFits | PlainFull | Fault(_) => (books::plain_segment(), Query::new(0, &[10, 0])),
         PlainDoesNot => (books::plain_segment(), Query::new(0, &[10, 20])),
-        OtherFits => (books::segment(), Query::new(0, &[10, 10])),
+        OtherFits | OtherFull | OtherFault => (books::segment(), Query::new(0, &[10, 10])),
         OtherDoesNot => (books::segment(), Query::new(0, &[10, 20])),
-        CallsAlone | CallsAloneFull => (books::house(), Query::new(2, &[10, 0])),
-        Long => (any_order(), Query::new(0, &[])),
+        CallsAlone => (calls_alone(), Query::new(1, &[10, 0])),
+        Open => (open(), Query::new(0, &[10, 0])),
     };
     let input = Input::new(&book, &heap(way), &query);
+    let faulty = |number: usize| damage::one_of_each_fault(&input).swap_remove(number - 1);
     match way {
-        PlainFull | CallsAloneFull => (input, Sizes::of(1)),
-        Fault(number) => {
-            let faulty = damage::one_of_each_fault(&input).swap_remove(number - 1);
-            (faulty, Sizes::OWN)
-        }
+        PlainFull | OtherFull => (input, Sizes::of(1)),
+        OtherFault => (faulty(9), Sizes::OWN),
+        Fault(number) => (faulty(number), Sizes::OWN),
         _ => (input, Sizes::OWN),
     }
 }
 
 type Alter = fn(&mut Walked);
 
-const ALTERED: [(Way, &str, Alter); 26] = {
+const ALTERED: [(Way, &str, Alter); 41] = {
     use Way::*;
     [
         (PlainFits, "no", no),
@@ -93,10 +102,9 @@ const ALTERED: [(Way, &str, Alter); 26] = {
         (PlainFits, "all bits", |walked| verdict(walked, u64::MAX)),
         (PlainFits, "the verdict not written", as_found),
         (PlainFits, "a refusal", |walked| walked.refusal = 9),
-        (PlainFits, "a refusal, and no", |walked| {
-            walked.refusal = 9;
-            no(walked)
-        }),
+        (PlainFits, "a refusal, and no", |walked| refused(walked, 9)),
+        (PlainFits, "12 beside a yes", |walked| walked.refusal = 12),
+        (PlainFits, "12", twelve),
         (PlainFits, "a word after the verdict", |walked| {
             walked.verdict.write_beyond(0)
         }),
@@ -112,53 +120,50 @@ const ALTERED: [(Way, &str, Alter); 26] = {
         (PlainDoesNot, "yes", yes),
         (PlainDoesNot, "the verdict not written", as_found),
         (PlainDoesNot, "a refusal", |walked| walked.refusal = 9),
+        (PlainDoesNot, "12", twelve),
         (PlainDoesNot, "a word after the verdict", |walked| {
             walked.verdict.write_beyond(0)
         }),
         (PlainFull, "no", no),
+        (PlainFull, "12", twelve),
         (PlainFull, "the engine's refusal", |walked| {
-            walked.refusal = 11;
-            no(walked)
+            refused(walked, 11)
         }),
+        (OtherFits, "yes, and not plain", answered_yes),
+        (OtherFits, "no, and not plain", answered_no),
+        (OtherFits, "a verdict beside 12", yes),
         (OtherFits, "another number", |walked| verdict(walked, 3)),
         (OtherFits, "the verdict not written", as_found),
-        (OtherFits, "a refusal since it is not plain", |walked| {
-            walked.refusal = 12;
-            no(walked)
-        }),
+        (OtherFits, "9 for 12", |walked| walked.refusal = 9),
+        (OtherFits, "11 for 12", |walked| walked.refusal = 11),
+        (OtherFits, "13 for 12", |walked| walked.refusal = 13),
         (OtherFits, "a byte of the book", |walked| {
             walked.input.book[3] ^= 1
         }),
-        (OtherDoesNot, "yes", yes),
-        (OtherDoesNot, "the verdict not written", as_found),
-        (CallsAlone, "yes", yes),
-        (CallsAlone, "a refusal", |walked| walked.refusal = 9),
-        (CallsAloneFull, "yes", yes),
-        (Long, "yes", yes),
+        (OtherDoesNot, "yes, and not plain", answered_yes),
+        (OtherDoesNot, "no, and not plain", answered_no),
+        (OtherDoesNot, "a verdict beside 12", yes),
+        (OtherFull, "yes, and not plain", answered_yes),
+        (OtherFull, "no, and not plain", answered_no),
+        (CallsAlone, "yes, and calls alone", answered_yes),
+        (CallsAlone, "no, and calls alone", answered_no),
+        (Open, "yes, and not fixed", answered_yes),
+        (Open, "no, and not fixed", answered_no),
+        (OtherFault, "12 for 9", twelve),
+        (OtherFault, "no refusal", answered_no),
+        (OtherFault, "a verdict beside 9", yes),
     ]
 };
 
 /// Altered answers to each of the faults.
-const FAULT_ALTERED: [(&str, Alter); 5] = [
+const FAULT_ALTERED: [(&str, Alter); 6] = [
     ("the next refusal", |walked| walked.refusal += 1),
     ("the refusal before", |walked| walked.refusal -= 1),
     ("no refusal", |walked| walked.refusal = 0),
+    ("12 for an earlier refusal", twelve),
     ("a verdict on a refusal", yes),
     ("not written on a refusal", as_found),
 ];
-
-/// Answers to books that are not plain, of which some cannot be the program's,
-/// and all are right.
-const CHOICES: [(Way, &str, Alter); 5] = {
-    use Way::*;
-    [
-        (OtherFits, "a yes that holds", yes),
-        (OtherFits, "a no that means nothing", no),
-        (OtherDoesNot, "a no that is right", no),
-        (CallsAlone, "a no where calls are alone", no),
-        (CallsAloneFull, "a no where nothing is known", no),
-    ]
-};
 
 fn verdict(walked: &mut Walked, value: u64) {
     walked.verdict.lent_mut()[0] = value;
@@ -172,14 +177,58 @@ fn no(walked: &mut Walked) {
     verdict(walked, 0)
 }
 
+fn refused(walked: &mut Walked, refusal: u64) {
+    walked.refusal = refusal;
+    no(walked)
+}
+
+fn twelve(walked: &mut Walked) {
+    refused(walked, 12)
+}
+
+fn answered_no(walked: &mut Walked) {
+    refused(walked, 0)
+}
+
+fn answered_yes(walked: &mut Walked) {
+    walked.refusal = 0;
+    yes(walked)
+}
+
 fn as_found(walked: &mut Walked) {
     walked.verdict = Block::number(MANNER);
 }
 
-/// Where the engine's verdict is altered, and both walks' are not.
-const ENGINE_ALTERED: [Way; 2] = [Way::PlainFits, Way::PlainDoesNot];
+type AlterExpected = fn(&mut Expected);
 
-pub const COUNT: usize = ALTERED.len() + FAULTS * FAULT_ALTERED.len() + ENGINE_ALTERED.len();
+/// What the reference says is altered, and the walk's answer is not.
+const EXPECTED_ALTERED: [(Way, &str, AlterExpected); 5] = {
+    use Way::*;
+    [
+        (PlainFits, "another verdict of the engine", |expected| {
+            expected.engine = Engine::Says(false)
+        }),
+        (PlainDoesNot, "another verdict of the engine", |expected| {
+            expected.engine = Engine::Says(true)
+        }),
+        (PlainFits, "two parts", |expected| {
+            expected.parts = Some(vec![1, 3])
+        }),
+        (PlainFits, "something against a plain book", |expected| {
+            expected.faults = Some(vec![plain::Fault::CallsAlone { rule: 0 }])
+        }),
+        (Open, "nothing against another book", |expected| {
+            expected.faults = Some(Vec::new())
+        }),
+    ]
+};
+
+/// Facts of a segment: two of other values, and one for another part.
+const FACTS: [u64; 3] = [1 << 16, 1 << 23 | 1, 1 << 16 | 1];
+
+const OTHER: usize = EXPECTED_ALTERED.len() + 1;
+
+pub const COUNT: usize = ALTERED.len() + FAULTS * FAULT_ALTERED.len() + OTHER;
 
 /// What was missed, or found where there is nothing.
 pub fn missed() -> Vec<&'static str> {
@@ -190,11 +239,6 @@ pub fn missed() -> Vec<&'static str> {
             missed.push("an answer of the walk as it is");
         }
     }
-    for (way, name, alter) in CHOICES {
-        if !right(way, alter) {
-            missed.push(name);
-        }
-    }
     let each_fault =
         faults.flat_map(|way| FAULT_ALTERED.map(move |(name, alter)| (way, name, alter)));
     for (way, name, alter) in ALTERED.into_iter().chain(each_fault) {
@@ -202,12 +246,15 @@ pub fn missed() -> Vec<&'static str> {
             missed.push(name);
         }
     }
-    for way in ENGINE_ALTERED {
+    for (way, name, alter) in EXPECTED_ALTERED {
         let (input, mut expected) = known(way);
-        expected.engine = expected.engine.map(|fits| !fits);
+        alter(&mut expected);
         if walk::judged(&input, &expected, &lent::walk(&input, MANNER)).is_ok() {
-            missed.push("another verdict of the engine");
+            missed.push(name);
         }
+    }
+    if !walk::one_part_each(&FACTS[..2]) || walk::one_part_each(&FACTS) {
+        missed.push("two parts for the same values");
     }
     missed
 }

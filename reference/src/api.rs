@@ -4,7 +4,8 @@
 use crate::domain::Domain;
 use crate::fixpoint::{self, Facts};
 use crate::formats::{self, Problem, Refusal};
-use crate::{certificate, check as conditions, fact, plain, verdict, walk as downwards};
+use crate::plain::{self, Fault};
+use crate::{certificate, check as conditions, fact, verdict, walk as downwards};
 
 #[derive(Clone, Copy, Debug, Default, PartialEq, Eq)]
 pub struct Reply {
@@ -222,13 +223,14 @@ pub struct WalkReply {
     pub verdict: u32,
 }
 
-/// The walk: no memory is lent, so there are refusals 1 to 9 only. Verdict 0
-/// says nothing unless the book is plain.
+/// The walk: no memory is lent, so after 1 to 9 there is only 12, the book is
+/// not plain.
 pub fn walk(book: &[u8], snapshot: &[u8], question: &[u8]) -> WalkReply {
-    match formats::read(book, snapshot, question) {
-        Ok(problem) => WalkReply {
+    let problem = formats::read(book, snapshot, question);
+    match problem.and_then(|problem| downwards::fits(&problem)) {
+        Ok(fits) => WalkReply {
             refusal: 0,
-            verdict: downwards::fits(&problem) as u32,
+            verdict: fits as u32,
         },
         Err(refusal) => WalkReply {
             refusal: refusal.number(),
@@ -239,8 +241,13 @@ pub fn walk(book: &[u8], snapshot: &[u8], question: &[u8]) -> WalkReply {
 
 /// Whether a book is plain, or its refusal (1 to 4).
 pub fn plain_book(book: &[u8]) -> Result<bool, u32> {
+    plain_faults(book).map(|faults| faults.is_empty())
+}
+
+/// All that keeps a book from being plain, or its refusal (1 to 4).
+pub fn plain_faults(book: &[u8]) -> Result<Vec<Fault>, u32> {
     match formats::read_rule_set(book) {
-        Ok(rules) => Ok(plain::plain(&rules)),
+        Ok(rules) => Ok(plain::faults(&rules)),
         Err(refusal) => Err(refusal.number()),
     }
 }

@@ -14,6 +14,8 @@ pub enum Refusal {
     Question = 9,
     Space = 10,
     TableFull = 11,
+    /// From the walk only.
+    NotPlain = 12,
 }
 
 impl Refusal {

@@ -16,5 +16,6 @@ pub mod formats;
 pub mod naive;
 pub mod plain;
 pub mod tree;
+pub mod trial;
 pub mod verdict;
 pub mod walk;

@@ -1,26 +1,84 @@
-//! Whether a rule set is plain: one function for each of the three demands,
-//! and one for all of them.
+//! Whether a rule set is plain: all there is against it, condition by condition
+//! in the order of the papers.
 
 use crate::formats::{Kind, Rule, RuleSet, Term};
 
+/// One thing against a rule set. Rules have their places in the book.
+#[derive(Clone, Copy, Debug, PartialEq, Eq, PartialOrd, Ord)]
+pub enum Fault {
+    /// Against the first condition: the rule has calls but no cell.
+    CallsAlone { rule: usize },
+    /// Against the second: nothing fixes this variable of the rule.
+    NotFixed { rule: usize, variable: usize },
+    /// Against the third: some arguments can meet the pure conditions of both
+    /// rules. The first one is earlier in the book.
+    MetTogether { first: usize, second: usize },
+}
+
+impl Fault {
+    /// The condition it is against: 1, 2 or 3.
+    pub fn condition(self) -> usize {
+        match self {
+            Fault::CallsAlone { .. } => 1,
+            Fault::NotFixed { .. } => 2,
+            Fault::MetTogether { .. } => 3,
+        }
+    }
+}
+
 pub fn plain(rules: &RuleSet) -> bool {
-    consuming(rules) && variables_fixed(rules) && exclusive(rules)
+    faults(rules).is_empty()
+}
+
+/// All faults, ascending. Rules that no query can reach count like others.
+pub fn faults(rules: &RuleSet) -> Vec<Fault> {
+    let mut faults = Vec::new();
+    for (number, rule) in rules.rules.iter().enumerate() {
+        if calls_alone(rule) {
+            faults.push(Fault::CallsAlone { rule: number });
+        }
+        let fixed = fixed(rule, rules.arities[rule.head]);
+        for variable in (0..rule.variables).filter(|&variable| !fixed[variable]) {
+            let rule = number;
+            faults.push(Fault::NotFixed { rule, variable });
+        }
+        // Each pair once. The same rule written twice makes two rules.
+        for (first, other) in rules.rules[..number].iter().enumerate() {
+            let arity = rules.arities[rule.head];
+            if other.head == rule.head && met_together(other, rule, arity) {
+                let second = number;
+                faults.push(Fault::MetTogether { first, second });
+            }
+        }
+    }
+    faults.sort();
+    faults
+}
+
+fn nothing_against(rules: &RuleSet, condition: usize) -> bool {
+    let faults = faults(rules);
+    faults.iter().all(|fault| fault.condition() != condition)
 }
 
 /// Whether each rule with calls has a cell.
 pub fn consuming(rules: &RuleSet) -> bool {
-    rules.rules.iter().all(|rule| !calls_alone(rule))
+    nothing_against(rules, 1)
+}
+
+/// Whether each rule fixes all its variables, also those that stand nowhere.
+pub fn variables_fixed(rules: &RuleSet) -> bool {
+    nothing_against(rules, 2)
+}
+
+/// Whether there are no arguments for which the pure conditions of two rules of
+/// one predicate can hold.
+pub fn exclusive(rules: &RuleSet) -> bool {
+    nothing_against(rules, 3)
 }
 
 /// A rule with calls but no cell.
 pub fn calls_alone(rule: &Rule) -> bool {
     rule.cells.is_empty() && !rule.calls.is_empty()
-}
-
-/// Whether each rule fixes all its variables, also those that stand nowhere.
-pub fn variables_fixed(rules: &RuleSet) -> bool {
-    let mut each = rules.rules.iter();
-    each.all(|rule| fixed(rule, rules.arities[rule.head]).iter().all(|&is| is))
 }
 
 /// For each variable whether it is fixed. Only the way the rule is written
@@ -56,20 +114,6 @@ pub fn fixed(rule: &Rule, arity: usize) -> Vec<bool> {
             return fixed;
         }
     }
-}
-
-/// Whether there are no arguments for which the pure conditions of two rules of
-/// one predicate can hold. The same rule written twice makes two rules.
-pub fn exclusive(rules: &RuleSet) -> bool {
-    for (number, second) in rules.rules.iter().enumerate() {
-        for first in &rules.rules[..number] {
-            let same_head = first.head == second.head;
-            if same_head && met_together(first, second, rules.arities[first.head]) {
-                return false;
-            }
-        }
-    }
-    true
 }
 
 /// Whether some numbers meet the pure conditions of both rules: the same for

@@ -1,212 +1,128 @@
-//! The walk: the verdict from the query downwards, without a table.
+//! The walk: the verdict from the query downwards, without a table. It is for
+//! plain rule sets and refuses all others.
 //!
 //! Below each node it gathers the parts of the heap that fit, one call at a
 //! time and without regard to the calls beside it; that no record is used twice
-//! is seen only where these parts are joined. A rule with calls but no cell is
-//! passed over, so each level takes a record and the walk comes to its end.
+//! is seen only where these parts are joined. A rule with calls has a cell, so
+//! each level takes a record and the walk comes to its end.
+//!
+//! In a plain rule set at most one part fits. Nothing here relies on that but
+//! the time it takes, so it can be tested. A node has one rule to go on with. A
+//! finished tree has at most 16 nodes with calls, so 49 nodes. A node for which
+//! nothing fits has at most one such call, and down that line there are 17
+//! nodes, each with at most three calls that fit: 17 * (1 + 3 * 49) nodes in all.
 
-use crate::domain::Domain;
 use crate::fact;
-use crate::formats::{Cell, Kind, Problem, Rule, Term};
+use crate::formats::{Call, Cell, Heap, Kind, Problem, Refusal, Rule, Term};
 use crate::plain;
 use std::collections::BTreeSet;
 
-#[derive(Clone, Copy, Debug, PartialEq, Eq)]
-pub enum Answer {
-    /// There is a finished tree that takes every record, without a rule that
-    /// has calls but no cell.
-    Yes,
-    /// There is none.
-    No,
-    /// The budget ran out first; nothing is said.
-    OutOfBudget,
+/// The walk's verdict, or the refusal of a rule set that is not plain.
+pub fn fits(problem: &Problem) -> Result<bool, Refusal> {
+    let parts = fitting_parts(problem)?;
+    Ok(parts.contains(&fact::all_records(problem)))
 }
 
-/// More than any plain rule set needs. There a node has one rule and one choice
-/// of values to go on with, hence at most one part. A finished tree has at most
-/// 16 nodes with calls, so 49 nodes. A node for which nothing fits has at most
-/// one such call, and down that line there are 17 nodes, each with at most
-/// three calls that fit: 17 * (1 + 3 * 49) nodes in all. A node takes no more
-/// than six steps for each of 16 rules, and three joins: under 250,000.
-pub const BUDGET: u64 = 300_000;
-
-/// The walk's verdict. False says nothing unless the rule set is plain.
-pub fn fits(problem: &Problem) -> bool {
-    answer(problem, BUDGET) == Answer::Yes
-}
-
-pub fn answer(problem: &Problem, budget: u64) -> Answer {
-    let domain = Domain::of(problem);
-    let mut walk = Walk {
-        problem,
-        numbers: domain.values(),
-        budget,
-    };
+/// Every part for which the query holds, ascending, or the same refusal.
+pub fn fitting_parts(problem: &Problem) -> Result<Vec<u16>, Refusal> {
+    if !plain::plain(&problem.rules) {
+        return Err(Refusal::NotPlain);
+    }
     let query = &problem.query;
     let arguments: Vec<u64> = query.values.iter().map(|&value| value as u64).collect();
     let all = fact::all_records(problem);
-    // What was found before the budget ran out holds all the same.
-    if walk.parts(query.predicate, &arguments, all).contains(&all) {
-        Answer::Yes
-    } else if walk.budget == 0 {
-        Answer::OutOfBudget
-    } else {
-        Answer::No
-    }
+    let found = parts(problem, query.predicate, &arguments, all);
+    Ok(found.into_iter().collect())
 }
 
-struct Walk<'a> {
-    problem: &'a Problem,
-    /// What is tried for variables that are not fixed. With the spares among
-    /// them these numbers are enough, here as for the table.
-    numbers: &'a [u64],
-    budget: u64,
+/// The parts of the records left that fit the predicate with these arguments.
+fn parts(problem: &Problem, predicate: usize, arguments: &[u64], left: u16) -> BTreeSet<u16> {
+    let mut found = BTreeSet::new();
+    for rule in &problem.rules.rules {
+        if rule.head == predicate {
+            found.extend(parts_by(problem, rule, arguments, left));
+        }
+    }
+    found
+}
+
+/// The same by one rule.
+fn parts_by(problem: &Problem, rule: &Rule, arguments: &[u64], left: u16) -> BTreeSet<u16> {
+    let Some(node) = Node::unfold(&problem.heap, rule, arguments, left) else {
+        return BTreeSet::new();
+    };
+    let left = left & !node.taken;
+    let mut found = BTreeSet::from([node.taken]);
+    for call in &rule.calls {
+        // Without this, calls behind one that fails would be walked in vain.
+        if !found.is_empty() {
+            let below = parts(problem, call.predicate, &node.arguments(call), left);
+            found = joins(&found, &below);
+        }
+    }
+    found
+}
+
+/// Unions of one part from each side that share no record.
+fn joins(left: &BTreeSet<u16>, right: &BTreeSet<u16>) -> BTreeSet<u16> {
+    let pairs = left.iter().flat_map(|a| right.iter().map(move |b| (a, b)));
+    let apart = pairs.filter(|(a, b)| *a & *b == 0);
+    apart.map(|(a, b)| a | b).collect()
 }
 
 /// A node being unfolded by a rule.
-#[derive(Clone)]
 struct Node<'a> {
     rule: &'a Rule,
-    /// The cells without a record so far.
-    cells: Vec<&'a Cell>,
     values: Vec<Option<u64>>,
     /// Records the cells have taken.
     taken: u16,
-    /// Records not taken by this node or those above it.
-    left: u16,
-}
-
-impl Walk<'_> {
-    fn spend(&mut self) -> bool {
-        self.budget = self.budget.saturating_sub(1);
-        self.budget > 0
-    }
-
-    /// The parts of the records left that fit the predicate with these
-    /// arguments.
-    fn parts(&mut self, predicate: usize, arguments: &[u64], left: u16) -> BTreeSet<u16> {
-        let mut found = BTreeSet::new();
-        let problem = self.problem;
-        for rule in &problem.rules.rules {
-            if rule.head != predicate || plain::calls_alone(rule) {
-                continue;
-            }
-            let mut values = vec![None; rule.variables];
-            for (value, &argument) in values.iter_mut().zip(arguments) {
-                *value = Some(argument);
-            }
-            let node = Node {
-                rule,
-                cells: rule.cells.iter().collect(),
-                values,
-                taken: 0,
-                left,
-            };
-            self.cells(node, &mut found);
-        }
-        found
-    }
-
-    /// Finds records for the cells, those with a known address first. In a
-    /// plain rule set there always is one with a known address.
-    fn cells(&mut self, mut node: Node, found: &mut BTreeSet<u16>) {
-        if !self.spend() || !node.carry() {
-            return;
-        }
-        if node.cells.is_empty() {
-            self.open(node, found);
-            return;
-        }
-        let known = |cell: &&Cell| node.values[cell.address].is_some();
-        let next = node.cells.iter().position(known).unwrap_or(0);
-        let cell = node.cells.remove(next);
-        let problem = self.problem;
-        for (index, record) in problem.heap.records.iter().enumerate() {
-            let bit = 1u16 << index;
-            if node.left & bit == 0 || record.fields.len() != cell.fields.len() {
-                continue;
-            }
-            let mut with = node.clone();
-            let mut same = with.settle(Term::Variable(cell.address), record.address as u64);
-            for (&term, &field) in cell.fields.iter().zip(&record.fields) {
-                same = same && with.settle(term, field as u64);
-            }
-            if same {
-                with.taken |= bit;
-                with.left &= !bit;
-                self.cells(with, found);
-            }
-        }
-    }
-
-    /// Gives numbers to the variables that are still open; in a plain rule set
-    /// there are none. True if the pure conditions could be met.
-    fn open(&mut self, mut node: Node, found: &mut BTreeSet<u16>) -> bool {
-        if !self.spend() || !node.carry() {
-            return false;
-        }
-        let open = |variable: &usize| node.values[*variable].is_none();
-        let called = |variable: &usize| {
-            let term = Term::Variable(*variable);
-            let mut calls = node.rule.calls.iter();
-            calls.any(|call| call.arguments.contains(&term))
-        };
-        let variables = 0..node.rule.variables;
-        let (for_calls, others): (Vec<usize>, Vec<usize>) =
-            variables.filter(open).partition(called);
-        let Some(&variable) = for_calls.first().or(others.first()) else {
-            self.calls(&node, found);
-            return true;
-        };
-        let mut met = false;
-        for &number in self.numbers {
-            let mut with = node.clone();
-            with.values[variable] = Some(number);
-            met = self.open(with, found) || met;
-            // No call shows this variable: another number would change nothing.
-            if met && for_calls.is_empty() {
-                break;
-            }
-        }
-        met
-    }
-
-    fn calls(&mut self, node: &Node, found: &mut BTreeSet<u16>) {
-        let mut parts = BTreeSet::from([node.taken]);
-        for call in &node.rule.calls {
-            let arguments: Option<Vec<u64>> = call
-                .arguments
-                .iter()
-                .map(|&term| node.value(term))
-                .collect();
-            let arguments = arguments.expect("no variable is open");
-            let below = self.parts(call.predicate, &arguments, node.left);
-            parts = self.joins(&parts, &below);
-            if parts.is_empty() {
-                return;
-            }
-        }
-        found.extend(parts);
-    }
-
-    /// Unions of one part from each side that share no record.
-    fn joins(&mut self, left: &BTreeSet<u16>, right: &BTreeSet<u16>) -> BTreeSet<u16> {
-        let mut joined = BTreeSet::new();
-        for &a in left {
-            for &b in right {
-                if !self.spend() {
-                    return joined;
-                }
-                if a & b == 0 {
-                    joined.insert(a | b);
-                }
-            }
-        }
-        joined
-    }
 }
 
 impl Node<'_> {
+    /// The node with a value for every variable and a record for every cell,
+    /// if the records left and the pure conditions allow it.
+    fn unfold<'a>(heap: &Heap, rule: &'a Rule, arguments: &[u64], left: u16) -> Option<Node<'a>> {
+        let mut values = vec![None; rule.variables];
+        for (value, &argument) in values.iter_mut().zip(arguments) {
+            *value = Some(argument);
+        }
+        let mut node = Node {
+            rule,
+            values,
+            taken: 0,
+        };
+        let mut cells: Vec<&Cell> = rule.cells.iter().collect();
+        while node.carry() {
+            if cells.is_empty() {
+                return Some(node);
+            }
+            // If no address were known, then what is known would not grow any
+            // more, and that address would not be fixed.
+            let known = |cell: &&Cell| node.values[cell.address].is_some();
+            let next = cells.iter().position(known).expect("an address is known");
+            if !node.take(heap, cells.remove(next), left) {
+                return None;
+            }
+        }
+        None
+    }
+
+    /// Takes the record for a cell with a known address; false if there is none.
+    fn take(&mut self, heap: &Heap, cell: &Cell, left: u16) -> bool {
+        let address = self.values[cell.address];
+        let mut each = heap.records.iter();
+        let Some(index) = each.position(|record| Some(record.address as u64) == address) else {
+            return false;
+        };
+        let (bit, fields) = (1u16 << index, &heap.records[index].fields);
+        if left & !self.taken & bit == 0 || fields.len() != cell.fields.len() {
+            return false;
+        }
+        self.taken |= bit;
+        let mut pairs = cell.fields.iter().zip(fields);
+        pairs.all(|(&term, &field)| self.settle(term, field as u64))
+    }
+
     fn value(&self, term: Term) -> Option<u64> {
         match term {
             Term::Variable(variable) => self.values[variable],
@@ -242,5 +158,10 @@ impl Node<'_> {
                 return true;
             }
         }
+    }
+
+    fn arguments(&self, call: &Call) -> Vec<u64> {
+        let values = call.arguments.iter().map(|&term| self.value(term));
+        values.map(|value| value.expect("it is fixed")).collect()
     }
 }

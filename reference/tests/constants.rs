@@ -373,11 +373,12 @@ fn verdict_by_all(book: &[u8], pool: &[u8], question: &[u8]) -> (u32, [usize; 3]
         }
         other => assert_eq!((other, reply.verdict), (Answer::NoneFound, 0)),
     }
-    let walked = api::walk(book, pool, question).verdict;
-    assert!(walked <= reply.verdict);
-    if api::plain_book(book) == Ok(true) {
-        assert_eq!(walked, reply.verdict);
-    }
+    let walked = api::walk(book, pool, question);
+    let expected = match api::plain_book(book) {
+        Ok(true) => (0, reply.verdict),
+        _ => (12, 0),
+    };
+    assert_eq!((walked.refusal, walked.verdict), expected);
     (reply.verdict, [reply.facts, reply.rounds, reply.lines])
 }
 
@@ -926,44 +927,36 @@ fn the_walk_against_the_engine_and_by_hand() {
             _ => dice.grown(&book, 6),
         };
         let problem = problem(&book, &pool, &question);
-        let plain = plain::plain(&problem.rules);
-        let answer = walk::answer(&problem, 50_000);
-        let yes = answer == walk::Answer::Yes;
-        if answer == walk::Answer::OutOfBudget {
-            assert!(!plain, "seed {seed}");
-            continue;
-        }
-        assert_eq!(api::walk(&book, &pool, &question).verdict, yes as u32);
         let outcome = api::decide(&book, &pool, &question, 600, 1800);
         if outcome.reply.refusal == 11 {
             continue;
         }
         let engine = outcome.reply.verdict == 1;
-        if plain {
-            assert_eq!(yes, engine, "seed {seed}");
-            let table = &outcome.memory.unwrap().table[..outcome.reply.facts];
-            let domain = Domain::of(&problem);
-            assert!(verdict::fitting_parts(&problem, &domain, table).len() <= 1);
+        let plain = plain::plain(&problem.rules);
+        kinds[plain as usize + 2 * engine as usize] += 1;
+        let reply = api::walk(&book, &pool, &question);
+        if !plain {
+            assert_eq!((reply.refusal, reply.verdict), (12, 0), "seed {seed}");
+            continue;
         }
-        assert!(engine || !yes, "seed {seed}");
-        let unfolded = without_calls_alone(&book);
-        let engine_on_these = api::decide(&unfolded, &pool, &question, 600, 1800).reply;
-        assert_eq!(engine_on_these.refusal, 0);
-        assert_eq!(engine_on_these.verdict, yes as u32, "seed {seed}");
-        kinds[plain as usize + 2 * yes as usize] += 1;
-        if plain {
-            let depth = problem.heap.records.len() + 1;
-            match tree::search(&problem, 2, depth, 20_000) {
-                Answer::Yes(tree) => {
-                    assert!(yes && tree::answers(&problem, &tree), "seed {seed}");
-                    by_hand[1] += 1;
-                }
-                Answer::NoneFound => {
-                    assert!(!yes, "seed {seed}");
-                    by_hand[0] += 1;
-                }
-                Answer::OutOfBudget => {}
+        let verdict = (reply.refusal, reply.verdict);
+        assert_eq!(verdict, (0, engine as u32), "seed {seed}");
+        let parts = walk::fitting_parts(&problem).expect("the book is plain");
+        assert!(parts.len() <= 1, "seed {seed}");
+        let table = &outcome.memory.unwrap().table[..outcome.reply.facts];
+        let from_table = verdict::fitting_parts(&problem, &Domain::of(&problem), table);
+        assert_eq!(parts, from_table, "seed {seed}");
+        let depth = problem.heap.records.len() + 1;
+        match tree::search(&problem, 2, depth, 20_000) {
+            Answer::Yes(tree) => {
+                assert!(engine && tree::answers(&problem, &tree), "seed {seed}");
+                by_hand[1] += 1;
             }
+            Answer::NoneFound => {
+                assert!(!engine, "seed {seed}");
+                by_hand[0] += 1;
+            }
+            Answer::OutOfBudget => {}
         }
     }
     assert!(kinds.iter().all(|&kind| kind > 500), "{kinds:?}");
@@ -1109,53 +1102,6 @@ fn exclusive_against_all_numbers() {
     assert!(equal > 3000 && zero > 8000, "{equal} {zero}");
 }
 
-/// Sixteen rules of one predicate, eight variables, eight conditions and eight
-/// constants, made so that a search through numbers ends late or never.
-fn hostile_books() -> Vec<Vec<u8>> {
-    let constants = [1, 2, 3, 4, 5, 6, 7, 8];
-    let mut books = Vec::new();
-    for arity in 0..=4u8 {
-        let bound = 8 - arity;
-        let mut sets: Vec<Vec<[u8; 3]>> = Vec::new();
-        // The last variable is no constant but one, and is another one.
-        let mut none: Vec<[u8; 3]> = (0..7).map(|index| [UNEQUAL, 7, C + index]).collect();
-        none.push([EQUAL, 7, C]);
-        sets.push(none);
-        // A contradiction between the last variables.
-        sets.push(vec![[EQUAL, 6, 7], [UNEQUAL, 7, 6]]);
-        sets.push(vec![[UNEQUAL, 7, 7]]);
-        sets.push(vec![[EQUAL, C, D]]);
-        // A chain through all variables with a constant at either end.
-        let mut chain: Vec<[u8; 3]> = (0..7).map(|index| [EQUAL, index, index + 1]).collect();
-        chain.push([UNEQUAL, 0, 7]);
-        sets.push(chain.clone());
-        chain[7] = [EQUAL, 7, C];
-        sets.push(chain);
-        // All variables unequal in a ring, and pairs with constants.
-        sets.push(
-            (0..8)
-                .map(|index| [UNEQUAL, index, (index + 1) % 8])
-                .collect(),
-        );
-        sets.push((0..8).map(|index| [UNEQUAL, index, C + index]).collect());
-        sets.push((0..8).map(|index| [EQUAL, 7 - index, C + index]).collect());
-        sets.push(vec![]);
-        for first in &sets {
-            for second in &sets {
-                let rules: Vec<Vec<u8>> = (0..16)
-                    .map(|number| {
-                        let pure = if number % 2 == 0 { first } else { second };
-                        rule(0, bound, pure, &[], &[])
-                    })
-                    .collect();
-                books.push(book_with(&[arity], &constants, &rules));
-                books.push(book_with(&[arity], &[9; 8], &rules));
-            }
-        }
-    }
-    books
-}
-
 #[test]
 fn plain_is_quick_on_every_book() {
     let mut slowest = Duration::ZERO;
@@ -1173,7 +1119,7 @@ fn plain_is_quick_on_every_book() {
         let best = (0..3).map(|_| once()).min().unwrap();
         slowest = slowest.max(best);
     };
-    let hostile = hostile_books();
+    let hostile = hostile_books(16);
     assert!(hostile.iter().all(|book| read(book).rules.len() == 16));
     for book in &hostile {
         time(book);
@@ -1198,7 +1144,7 @@ fn plain_is_quick_on_every_book() {
 #[test]
 fn the_table_is_quick_with_constants() {
     let mut slowest = Duration::ZERO;
-    for book in hostile_books() {
+    for book in hostile_books(16) {
         let arity = book[1] as usize;
         let ask = question(0, &vec![1; arity]);
         let start = Instant::now();

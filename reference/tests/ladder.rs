@@ -234,6 +234,10 @@ fn the_first_of_all_faults_counts() {
                 let desk = api::desk_engine(book, snapshot, question);
                 let fits = (expected == 0) as u32;
                 assert_eq!(desk, 2 * expected + fits);
+                // L is not plain, which the walk says after all these.
+                let walked = api::walk(book, snapshot, question);
+                let last = if expected == 0 { 12 } else { expected };
+                assert_eq!((walked.refusal, walked.verdict), (last, 0));
             }
         }
     }

@@ -324,11 +324,12 @@ fn reply(book: &[u8], pool: &[u8], question: &[u8]) -> (u32, [usize; 3]) {
         Answer::Yes(tree) => assert!(reply.verdict == 1 && tree::answers(&problem, &tree)),
         other => assert_eq!((other, reply.verdict), (Answer::NoneFound, 0)),
     }
-    let walked = api::walk(book, pool, question).verdict;
-    assert!(walked <= reply.verdict);
-    if api::plain_book(book) == Ok(true) {
-        assert_eq!(walked, reply.verdict);
-    }
+    let walked = api::walk(book, pool, question);
+    let expected = match api::plain_book(book) {
+        Ok(true) => (0, reply.verdict),
+        _ => (12, 0),
+    };
+    assert_eq!((walked.refusal, walked.verdict), expected);
     (reply.verdict, [reply.facts, reply.rounds, reply.lines])
 }
 

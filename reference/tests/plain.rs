@@ -5,9 +5,8 @@ mod common;
 
 use common::*;
 use reference::api;
-use reference::formats::{self, Kind, Rule, RuleSet, Term};
-use reference::{naive, plain};
-use std::collections::BTreeSet;
+use reference::formats::{self, Kind, RuleSet, Term};
+use reference::{naive, plain, trial};
 
 fn read(book: &[u8]) -> RuleSet {
     formats::read_rule_set(book).expect("no fault")
@@ -251,7 +250,7 @@ fn no_arguments() {
     assert_eq!(demands(&book(&[0], &[never.clone(), never])), PLAIN);
 }
 
-/// Fixed variables once more: what can be reached from the head or nil, going
+/// Fixed variables a third time: what can be reached from the head or nil, going
 /// along equalities both ways and from addresses to fields.
 fn fixed_by_reaching(rules: &RuleSet) -> bool {
     rules.rules.iter().all(|rule| {
@@ -283,70 +282,6 @@ fn fixed_by_reaching(rules: &RuleSet) -> bool {
     })
 }
 
-/// Exclusive rules once more: for each rule all arguments that meet its
-/// conditions, up to a renaming. The numbers are 0 for nil, then new ones in the
-/// order of their first use, so two rules with arguments in common show the same
-/// ones. There are no constants in these books.
-fn exclusive_by_renaming(rules: &RuleSet) -> bool {
-    assert!(rules.constants.is_empty());
-    let met = |rule: &Rule| {
-        let mut met = BTreeSet::new();
-        let arity = rules.arities[rule.head];
-        each_way(rule, arity, &mut Vec::new(), &mut |arguments| {
-            let all = rule.variables;
-            let mut some = false;
-            each_way(rule, all, &mut arguments.to_vec(), &mut |_| {
-                some = true;
-                true
-            });
-            if some {
-                met.insert(arguments.to_vec());
-            }
-            false
-        });
-        met
-    };
-    let met: Vec<BTreeSet<Vec<u64>>> = rules.rules.iter().map(met).collect();
-    let head = |rule: usize| rules.rules[rule].head;
-    (0..met.len()).all(|second| {
-        (0..second)
-            .filter(|&first| head(first) == head(second))
-            .all(|first| met[first].is_disjoint(&met[second]))
-    })
-}
-
-/// Every list of `length` numbers that starts with these and contradicts no
-/// condition, until `enough`.
-fn each_way(
-    rule: &Rule,
-    length: usize,
-    numbers: &mut Vec<u64>,
-    enough: &mut dyn FnMut(&[u64]) -> bool,
-) -> bool {
-    let number = |term: Term| match term {
-        Term::Variable(variable) => numbers.get(variable).copied(),
-        _ => term.number(),
-    };
-    let contradicted = rule.pure.iter().any(|pure| {
-        let (left, right) = (number(pure.left), number(pure.right));
-        let known = left.is_some() && right.is_some();
-        known && (left == right) != (pure.kind == Kind::Equal)
-    });
-    if contradicted {
-        return false;
-    }
-    if numbers.len() == length {
-        return enough(numbers);
-    }
-    let new = numbers.iter().max().map_or(1, |highest| highest + 1);
-    (0..=new).any(|number| {
-        numbers.push(number);
-        let ended = each_way(rule, length, numbers, enough);
-        numbers.pop();
-        ended
-    })
-}
-
 #[test]
 fn each_demand_against_other_ways() {
     let (mut kinds, mut tried) = ([0; 8], 0);
@@ -361,7 +296,8 @@ fn each_demand_against_other_ways() {
         let [consuming, fixed, exclusive] = demands(&book);
         assert_eq!(consuming, without_calls_alone(&book) == book);
         assert_eq!(fixed, fixed_by_reaching(&rules), "seed {seed}");
-        assert_eq!(exclusive, exclusive_by_renaming(&rules), "seed {seed}");
+        let once_more = trial::faults(&rules);
+        assert_eq!(plain::faults(&rules), once_more, "seed {seed}");
         let widest = rules.rules.iter().map(|rule| rule.variables).max();
         if seed < 8000 && widest <= Some(3) {
             assert_eq!(exclusive, naive::exclusive(&rules), "seed {seed}");

@@ -6,14 +6,30 @@ mod common;
 use common::*;
 use reference::api::{self, WalkReply};
 use reference::domain::Domain;
-use reference::tree;
-use reference::walk::{self, Answer};
-use reference::{plain, verdict};
+use reference::formats::Refusal;
+use reference::{tree, verdict, walk};
+use std::time::{Duration, Instant};
 
 fn walked(book: &[u8], snapshot: &[u8], question: &[u8]) -> u32 {
     let reply = api::walk(book, snapshot, question);
     assert_eq!(reply.refusal, 0);
     reply.verdict
+}
+
+/// Asserts that the walk refuses the book, and that the engine does not.
+#[track_caller]
+fn not_plain(book: &[u8], snapshot: &[u8], question: &[u8]) {
+    let refused = WalkReply {
+        refusal: 12,
+        verdict: 0,
+    };
+    assert_eq!(api::walk(book, snapshot, question), refused);
+    assert_eq!(api::plain_book(book), Ok(false));
+    let problem = problem(book, snapshot, question);
+    assert_eq!(walk::fits(&problem), Err(Refusal::NotPlain));
+    assert_eq!(walk::fitting_parts(&problem), Err(Refusal::NotPlain));
+    let engine = api::decide(book, snapshot, question, 1024, 3072).reply;
+    assert!(engine.refusal == 0 || engine.refusal == 11);
 }
 
 /// The same by the engine with all the lines there are.
@@ -34,10 +50,12 @@ fn the_engines_refusals() {
         let [book, snapshot, question] = parts;
         let reply = api::walk(book, snapshot, question);
         let engine = api::decide(book, snapshot, question, 1024, 3072).reply;
-        assert_eq!(
-            (reply.refusal, reply.verdict),
-            (engine.refusal, engine.verdict)
-        );
+        let refused = engine.refusal == 0 && api::plain_book(book) == Ok(false);
+        let expected = match refused {
+            true => (12, 0),
+            false => (engine.refusal, engine.verdict),
+        };
+        assert_eq!((reply.refusal, reply.verdict), expected);
         reply
     };
     let fits = WalkReply {
@@ -45,7 +63,7 @@ fn the_engines_refusals() {
         verdict: 1,
     };
     assert_eq!(ask(&good), fits);
-    let mut met = [0; 10];
+    let mut met = [0; 13];
     for part in 0..3 {
         for at in 0..=good[part].len() {
             // Cut there, one byte more, and another byte instead.
@@ -68,6 +86,9 @@ fn the_engines_refusals() {
             }
         }
     }
+    // What is refused for lack of memory is not the walk's.
+    assert_eq!(met[10..12], [0, 0]);
+    met[10..12].fill(1);
     assert!(met.iter().all(|&times| times > 0), "{met:?}");
 }
 
@@ -123,8 +144,8 @@ fn plain_shapes() {
     }
 }
 
-/// None of the three books is plain. In L every rule is unfolded; in S and H
-/// those that only call are not, though their pools fit.
+/// None of the papers' books is plain, so the walk refuses their rows. With one
+/// condition more L is plain; then a ring is no segment any more.
 #[test]
 fn the_papers_pools() {
     let none = snapshot(&[]);
@@ -132,28 +153,27 @@ fn the_papers_pools() {
     let itself = snapshot(&[(10, &[10])]);
     let two = snapshot(&[(10, &[20]), (20, &[10])]);
     let last = snapshot(&[(10, &[0])]);
-    let rows: [Row<[u32; 2]>; 12] = [
-        (book_l(), &none, 0, &[5, 5], [1, 1]),
-        (book_l(), &none, 0, &[5, 6], [0, 0]),
-        (book_l(), &one, 0, &[10, 20], [1, 1]),
-        (book_l(), &one, 0, &[10, 10], [0, 0]),
-        (book_l(), &itself, 0, &[10, 10], [1, 1]),
-        (book_l(), &two, 0, &[10, 10], [1, 1]),
-        (book_s(), &none, 0, &[0], [0, 1]),
-        (book_s(), &none, 1, &[0, 0], [1, 1]),
-        (book_h(), &last, 2, &[10, 0], [0, 1]),
-        (book_h(), &last, 2, &[10, 10], [0, 0]),
-        (book_h(), &last, 0, &[10, 0], [1, 1]),
-        // The ring's rule has a cell beside its call.
-        (book_h(), &two, 1, &[10], [1, 1]),
+    type Both<'a> = (&'a [u8], &'a [u32], [u32; 2]);
+    let rows: [Both; 6] = [
+        (&none, &[5, 5], [1, 1]),
+        (&none, &[5, 6], [0, 0]),
+        (&one, &[10, 20], [1, 1]),
+        (&one, &[10, 10], [0, 0]),
+        (&itself, &[10, 10], [1, 0]),
+        (&two, &[10, 10], [1, 0]),
     ];
-    for (row, (book, pool, predicate, values, expected)) in rows.into_iter().enumerate() {
-        let question = question(predicate, values);
-        let verdicts = [
-            walked(&book, pool, &question),
-            decided(&book, pool, &question),
-        ];
+    for (row, (pool, values, expected)) in rows.into_iter().enumerate() {
+        let question = question(0, values);
+        not_plain(&book_l(), pool, &question);
+        let verdicts = [book_l(), plain_segment()].map(|book| decided(&book, pool, &question));
         assert_eq!(verdicts, expected, "row {row}");
+        let verdict = walked(&plain_segment(), pool, &question);
+        assert_eq!(verdict, expected[1], "row {row}");
+    }
+    not_plain(&book_s(), &none, &question(0, &[0]));
+    not_plain(&book_s(), &none, &question(1, &[0, 0]));
+    for (predicate, values) in [(0, &[10, 0][..]), (1, &[10]), (2, &[10, 0]), (2, &[10, 10])] {
+        not_plain(&book_h(), &last, &question(predicate, values));
     }
 }
 
@@ -170,10 +190,6 @@ fn cells_in_any_order_and_values_along_equalities() {
         let question = question(0, &[address]);
         assert_eq!(walked(&book, &pool, &question), (address == 5) as u32);
     }
-    // Nothing is tried in vain: six steps, the most a rule may take.
-    let problem = problem(&book, &pool, &question(0, &[5]));
-    assert_eq!(walk::answer(&problem, 7), Answer::Yes);
-    assert_eq!(walk::answer(&problem, 6), Answer::OutOfBudget);
 }
 
 #[test]
@@ -190,7 +206,7 @@ fn one_cell_cannot_stand_for_two() {
 /// Trees with three below each record: 16 records as a tree, as a ladder whose
 /// rungs are reached three times, and as a line with the long call last.
 #[test]
-fn plain_books_stay_within_the_budget() {
+fn sixteen_records_are_walked_quickly() {
     let end = rule(0, 0, &[[EQUAL, 0, NIL]], &[], &[]);
     let step = rule(
         0,
@@ -217,16 +233,21 @@ fn plain_books_stay_within_the_budget() {
     let around = pool(&|at| [0, 0, at % 16 + 1]);
     for (pool, expected) in [(heap_order, 1), (ladder, 0), (line, 1), (around, 0)] {
         let question = question(0, &[1]);
-        let problem = problem(&book, &pool, &question);
-        let answer = [Answer::No, Answer::Yes][expected];
-        assert_eq!(walk::answer(&problem, 250_000), answer);
-        assert_eq!(walked(&book, &pool, &question), expected as u32);
+        let once = || {
+            let start = Instant::now();
+            assert_eq!(walked(&book, &pool, &question), expected);
+            start.elapsed()
+        };
+        // The best of three, since others use the machine as well.
+        let best = (0..3).map(|_| once()).min().unwrap();
+        assert!(best < Duration::from_millis(100), "{best:?}");
     }
 }
 
+/// Any pool in any order, with two further calls for each record: walked
+/// through, it would take for ever.
 #[test]
-fn a_book_that_takes_too_long() {
-    // Any pool in any order, with two further calls for each record.
+fn a_book_that_would_take_too_long() {
     let book = book(
         &[0],
         &[
@@ -235,18 +256,14 @@ fn a_book_that_takes_too_long() {
         ],
     );
     let records: Vec<(u32, &[u32])> = (1..17).map(|address| (address, &[0][..])).collect();
-    let pool = snapshot(&records);
-    let problem = problem(&book, &pool, &question(0, &[]));
-    assert_eq!(walk::answer(&problem, 100_000), Answer::OutOfBudget);
-    assert_eq!(walked(&book, &pool, &question(0, &[])), 0);
+    not_plain(&book, &snapshot(&records), &question(0, &[]));
 }
 
-/// On plain books the walk is the engine. On others its yes is the engine's
-/// yes for the book without the rules that it does not unfold; the reference's
-/// walk is even complete there, unless it runs out of budget.
+/// A book that is plain has its verdict from the engine and by hand, and every
+/// other one is refused.
 #[test]
 fn against_the_engine_and_by_hand() {
-    let (mut kinds, mut by_hand, mut long, mut passed_over) = ([0; 4], [0; 2], 0, 0);
+    let (mut kinds, mut by_hand, mut long, mut smaller) = ([0; 4], [0; 2], 0, 0);
     for seed in 0..24_000 {
         let mut dice = Dice::new(30_000_000 + seed);
         let book = match seed % 4 {
@@ -259,53 +276,47 @@ fn against_the_engine_and_by_hand() {
             dice.grown(&book, 6)
         };
         let problem = problem(&book, &pool, &question);
-        let plain = plain::plain(&problem.rules);
-        let answer = walk::answer(&problem, 50_000);
-        let yes = answer == Answer::Yes;
-        if answer == Answer::OutOfBudget {
-            assert!(!plain, "seed {seed}");
-            continue;
-        }
-        assert_eq!(walked(&book, &pool, &question), yes as u32);
         let outcome = api::decide(&book, &pool, &question, 600, 1800);
         if outcome.reply.refusal == 11 {
             continue;
         }
         let engine = outcome.reply.verdict == 1;
-        if plain {
-            assert_eq!(yes, engine, "seed {seed}");
-            // What fits in a plain book, fits one part only.
-            let table = &outcome.memory.unwrap().table[..outcome.reply.facts];
-            let domain = Domain::of(&problem);
-            assert!(verdict::fitting_parts(&problem, &domain, table).len() <= 1);
+        let plain = api::plain_book(&book) == Ok(true);
+        kinds[plain as usize + 2 * engine as usize] += 1;
+        if !plain {
+            not_plain(&book, &pool, &question);
+            continue;
         }
-        assert!(engine || !yes, "seed {seed}");
-        let unfolded = without_calls_alone(&book);
-        let engine_on_these = api::decide(&unfolded, &pool, &question, 600, 1800).reply;
-        assert_eq!(engine_on_these.refusal, 0);
-        assert_eq!(engine_on_these.verdict, yes as u32, "seed {seed}");
-        kinds[plain as usize + 2 * yes as usize] += 1;
-        passed_over += (engine && !yes) as usize;
-        long += (plain && yes && problem.heap.records.len() > 3) as usize;
-        if plain {
-            // Each level takes a record, so none is deeper than this.
-            let depth = problem.heap.records.len() + 1;
-            match tree::search(&problem, 2, depth, 20_000) {
-                tree::Answer::Yes(tree) => {
-                    assert!(yes && tree::answers(&problem, &tree), "seed {seed}");
-                    by_hand[1] += 1;
-                }
-                tree::Answer::NoneFound => {
-                    assert!(!yes, "seed {seed}");
-                    by_hand[0] += 1;
-                }
-                tree::Answer::OutOfBudget => {}
+        let verdict = walked(&book, &pool, &question);
+        assert_eq!(verdict, engine as u32, "seed {seed}");
+        // What fits in a plain book, fits one part only.
+        let parts = walk::fitting_parts(&problem).expect("the book is plain");
+        assert!(parts.len() <= 1, "seed {seed}");
+        let table = &outcome.memory.unwrap().table[..outcome.reply.facts];
+        let from_table = verdict::fitting_parts(&problem, &Domain::of(&problem), table);
+        assert_eq!(parts, from_table, "seed {seed}");
+        long += (engine && problem.heap.records.len() > 3) as usize;
+        smaller += (!engine && parts.len() == 1) as usize;
+        // Each level takes a record, so none is deeper than this.
+        let depth = problem.heap.records.len() + 1;
+        match tree::search(&problem, 2, depth, 20_000) {
+            tree::Answer::Yes(tree) => {
+                assert!(engine && tree::answers(&problem, &tree), "seed {seed}");
+                by_hand[1] += 1;
             }
+            tree::Answer::NoneFound => {
+                assert!(!engine, "seed {seed}");
+                by_hand[0] += 1;
+            }
+            tree::Answer::OutOfBudget => {}
+        }
+        if let Some(by_trees) = tree::fitting_parts(&problem, 2, depth, 20_000) {
+            assert_eq!(parts, by_trees, "seed {seed}");
         }
     }
     assert!(kinds.iter().all(|&kind| kind > 500), "{kinds:?}");
     assert!(by_hand.iter().all(|&kind| kind > 500), "{by_hand:?}");
-    assert!(long > 100 && passed_over > 50, "{long} {passed_over}");
+    assert!(long > 100 && smaller > 300, "{long} {smaller}");
 }
 
 /// The known shapes with many records.

@@ -47,7 +47,7 @@ class Ladder(unittest.TestCase):
         self.assertEqual(self.check(program_cases("faults", 4)), set(range(10)))
 
     def test_cases(self) -> None:
-        self.assertEqual(self.check(program_cases("cases", 5)), {0, 1, 2, 4, 6, 7, 9, 10, 11})
+        self.assertEqual(self.check(program_cases("cases", 5)), {0, 1, 2, 4, 6, 7, 9, 10, 11, 12})
 
     def test_decoding_has_no_book_or_pool_or_question(self) -> None:
         for refusal, book, snapshot, question in program_cases("faults", 4):

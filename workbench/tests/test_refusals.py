@@ -5,8 +5,8 @@ from workbench.refusals import SENTENCES, sentence
 
 class Sentences(unittest.TestCase):
     def test_each_number_has_one(self):
-        self.assertEqual(sorted(SENTENCES), list(range(1, 12)))
-        self.assertEqual(len(set(SENTENCES.values())), 11)
+        self.assertEqual(sorted(SENTENCES), list(range(1, 13)))
+        self.assertEqual(len(set(SENTENCES.values())), 12)
 
     def test_each_says_what_to_do(self):
         for number, text in SENTENCES.items():
@@ -21,4 +21,4 @@ class Sentences(unittest.TestCase):
         self.assertEqual(sentence(11), f"{SENTENCES[11]}; or, if the book is plain, ask with --walk, which needs no table")
 
     def test_unknown(self):
-        self.assertIn("does not know", sentence(12))
+        self.assertIn("does not know", sentence(13))

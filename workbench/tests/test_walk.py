@@ -1,4 +1,4 @@
-"""Answers of the quick walk: a yes, a no that holds since the book is plain, a no that means nothing, refusals, and mistakes."""
+"""Answers of the quick walk: a yes, a no, a book that it refuses since it is not plain, other refusals, and mistakes."""
 
 import contextlib
 import json
@@ -16,8 +16,8 @@ from random import Random
 from unittest import mock
 
 from workbench import library
-from workbench.asking import DOES_NOT_FIT, FITS, NOT_ANSWERED, REFUSED, Answer, ask, ask_next
-from workbench.book_bytes import encode_book
+from workbench.asking import DOES_NOT_FIT, FITS, NO_REASON, NOT_ANSWERED, NOT_PLAIN, REFUSED, Answer, ask, ask_next
+from workbench.book_bytes import encode_book, explain_book
 from workbench.book_text import parse_book
 from workbench.library import ROOT, Reply
 from workbench.model import EQUAL, FIRST_CONSTANT, NIL, UNEQUAL, Book, Call, Cell, Condition, Pool, Predicate, Question, Rule
@@ -27,6 +27,7 @@ from workbench.pool_text import parse_pool
 from workbench.question_bytes import encode_question
 from workbench.question_text import parse_question
 from workbench.render import answer_text, short_text, sum_text, walk_text
+from workbench.refusals import sentence
 from workbench.report_json import report, result
 from workbench.tests.engine_samples import CHAIN, FROM_TEN_TO_NIL, FROM_TEN_TO_TWENTY, H, L, PLAIN, TWO
 from workbench.tests.samples import repository_blocks
@@ -35,16 +36,21 @@ from workbench.tests.test_cli import COMMAND, run_inside
 from workbench.tests.test_plain import reason
 from workbench.tests.test_render import asked
 
-# This fits, and the walk says no: it never unfolds the rule asked about, which has calls and no cell.
+# This fits, and the walk refuses the book: the rule asked about has calls and no cell.
 QUEUE = ("examples/near-misses/no-cell.book", "examples/queue.pool", "queue_and_free(0x10, 0x40)")
 FIT = ("examples/plain/segment.book", "examples/segment.pool", "segment(10, nil)")
 NO_FIT = ("examples/plain/segment.book", "examples/segment.pool", "segment(10, 30)")
 REASON = "rule 3 of queue_and_free (line 6) calls segment and has no cell"
 
 
-def saying(verdict: int):
-    """A walk with this verdict."""
-    return mock.patch.object(library, "walk", return_value=(0, verdict))
+def saying(verdict: int, refusal: int = 0):
+    """A walk with this reply."""
+    return mock.patch.object(library, "walk", return_value=(refusal, verdict))
+
+
+def refusing():
+    """A walk that finds the book not plain."""
+    return saying(0, NOT_PLAIN)
 
 
 def walked(book: Book, pool: Pool, question: Question) -> Answer:
@@ -59,9 +65,30 @@ class Answers(unittest.TestCase):
         due = "The walk gives no unfolding to show or to save. To have one, ask the engine:\n  COMMAND\n"
         self.assertEqual(walk_text(answer, "COMMAND"), due)
 
-    def test_a_yes_for_a_book_that_is_not_plain_is_a_yes(self):
-        with saying(1):
-            self.assertEqual(walked(L, CHAIN, FROM_TEN_TO_NIL).kind, FITS)
+    def test_a_book_that_is_not_plain_has_no_answer(self):
+        for question in (FROM_TEN_TO_NIL, FROM_TEN_TO_TWENTY):
+            answer = walked(L, CHAIN, question)
+            self.assertEqual((answer.kind, answer.reply.refusal, answer.reply.verdict), (NOT_ANSWERED, NOT_PLAIN, 0))
+
+    def test_a_refusal_for_which_the_workbench_finds_no_reason(self):
+        with refusing():
+            answer = walked(PLAIN, CHAIN, FROM_TEN_TO_NIL)
+        self.assertEqual((answer.kind, answer.not_plain), (NOT_ANSWERED, NO_REASON))
+
+    def test_every_book_that_is_not_plain_for_one_is_not_for_the_other(self):
+        """The library's test, which is proved, and the workbench's, on plain books of which a condition or a cell is left out."""
+        chance = Random(12)
+        found: Counter[int] = Counter()
+        for _ in range(2000):
+            book, place = plain_book(chance), chance.randrange(9)
+            if place < len(book.rules):
+                rule = book.rules[place]
+                less = replace(rule, cells=()) if chance.randrange(3) == 0 else replace(rule, conditions=rule.conditions[1:])
+                book = replace(book, rules=(*book.rules[:place], less, *book.rules[place + 1 :]))
+            refusal = library.walk(encode_book(book), encode_pool(some_pool(chance)), encode_question(Question(0, (0, 1))))[0]
+            self.assertEqual(refusal, NOT_PLAIN if not_plain(book) else 0)
+            found[refusal] += 1
+        self.assertGreater(min(found[0], found[NOT_PLAIN]), 300)
 
     def test_does_not_fit_where_the_book_is_plain(self):
         answer = walked(PLAIN, TWO, Question(0, (10, 5)))
@@ -74,8 +101,7 @@ class Answers(unittest.TestCase):
         )
         self.assertEqual(
             walk_text(answer, "COMMAND"),
-            "The walk's no holds if the book is plain. The workbench finds that it is, by a test of its own that is not proved.\n"
-            "The engine needs no such test:\n"
+            "The walk's no is as strong as the engine's, since it refuses a book that is not plain. To ask the engine all the same:\n"
             "  COMMAND\n",
         )
 
@@ -85,8 +111,8 @@ class Answers(unittest.TestCase):
         self.assertEqual((answer.kind, bool(answer.hints)), (NOT_ANSWERED, False))
         self.assertEqual(answer_text(answer), "not answered\n")
         due = (
-            " may fit or not: the walk found no unfolding, which means nothing for a book that is not plain.\n"
-            "The workbench finds that this one is not, by a test of its own that is not proved:\n"
+            " may fit or not: the walk answers for plain books alone, and refuses this one (refusal 12).\n"
+            "Why it is not plain, in the workbench's own words:\n"
             "  the conditions of rules 1 and 2 of segment (lines 3 and 4) can both be met, for example by segment(1, 1)\n"
             "To ask the engine:\n"
             "  COMMAND\n"
@@ -117,18 +143,17 @@ class Answers(unittest.TestCase):
 class Json(unittest.TestCase):
     def test_three_cases(self):
         reason = not_plain(L)
-        nothing = "the pool may fit or not: the walk found no unfolding, which means nothing for a book that is not plain"
-        for book, verdict, answer, message, plain in (
-            (PLAIN, 1, "fits", "", {"holds": True, "reason": ""}),
-            (PLAIN, 0, "does not fit", "", {"holds": True, "reason": ""}),
-            (L, 1, "fits", "", {"holds": False, "reason": reason}),
-            (L, 0, "not answered", f"{nothing}: {reason}", {"holds": False, "reason": reason}),
+        refused = f"the pool may fit or not: {sentence(NOT_PLAIN)}: {reason}"
+        for book, refusal, verdict, answer, message, plain in (
+            (PLAIN, 0, 1, "fits", "", {"holds": True, "reason": ""}),
+            (PLAIN, 0, 0, "does not fit", "", {"holds": True, "reason": ""}),
+            (L, NOT_PLAIN, 0, "not answered", refused, {"holds": False, "reason": reason}),
         ):
-            with self.subTest(answer=answer, plain=plain), saying(verdict):
+            with self.subTest(answer=answer, plain=plain), saying(verdict, refusal):
                 found = result("two.pool", walked(book, TWO, FROM_TEN_TO_TWENTY))
                 whole = json.loads(report("b", book, FROM_TEN_TO_TWENTY, False, [found], by_walk=True))
                 self.assertEqual((whole["about"], whole["by"], whole["plain"]), ("whole", "walk", plain))
-                self.assertEqual((found["answer"], found["message"], found["refusal"]), (answer, message, 0))
+                self.assertEqual((found["answer"], found["message"], found["refusal"]), (answer, message, refusal))
                 self.assertEqual((found["facts"], found["rounds"], found["unfolding"], found["part"]), (0, 0, [], None))
                 self.assertIsNone(found["hints"]["part"])
                 self.assertEqual(list(found), list(result("two.pool", ask(asked(book, TWO, FROM_TEN_TO_TWENTY)))))
@@ -157,13 +182,13 @@ class Command(unittest.TestCase):
     def test_statuses(self):
         self.assertEqual([run_inside("ask", "--walk", *row)[0] for row in (FIT, NO_FIT)], [0, 1])
         self.assertEqual([run_inside("ask", *row, "--walk", "--json")[0] for row in (FIT, NO_FIT)], [0, 1])
-        with saying(0):
+        with refusing():
             for more in ([], ["--json"]):
                 self.assertEqual(run_inside("ask", "--walk", *QUEUE, *more)[0], 2)
 
     def test_a_pool_that_fits_and_is_not_answered(self):
         """The command offered has the answer."""
-        with saying(0):
+        with refusing():
             status, out, said = run_inside("ask", "--walk", *QUEUE)
         self.assertEqual((status, said), (2, ""))
         first, *_, reason, ahead, command, _ = out.decode().splitlines()
@@ -173,7 +198,7 @@ class Command(unittest.TestCase):
         self.assertEqual((done.returncode, done.stdout[:5], done.stderr), (0, b"fits\n", b""))
 
     def test_json_of_a_pool_that_fits_and_is_not_answered(self):
-        with saying(0):
+        with refusing():
             whole = json.loads(run_inside("ask", "--walk", *QUEUE, "--json")[1])
         self.assertEqual((whole["about"], whole["by"], whole["plain"]), ("whole", "walk", {"holds": False, "reason": REASON}))
         self.assertEqual([found["answer"] for found in whole["results"]], ["not answered"])
@@ -185,8 +210,8 @@ class Command(unittest.TestCase):
         rows = out.decode().splitlines()
         self.assertEqual([row.split("   ")[-1].strip() for row in rows[:3]], ["fits", "does not fit", "not read"])
         self.assertEqual(rows[3], "3 pools: 1 fits, 1 does not, 1 not read")
-        self.assertRegex(rows[4], "^The walk's no holds if the book is plain. ")
-        self.assertEqual(rows[5:], ["The engine needs no such test:", f"  ./shapes ask {FIT[0]} {' '.join(pools)} 'segment(10, nil)'"])
+        self.assertRegex(rows[4], "^The walk's no is as strong as the engine's, ")
+        self.assertEqual(rows[5:], [f"  ./shapes ask {FIT[0]} {' '.join(pools)} 'segment(10, nil)'"])
         status, out, _ = run_inside("ask", "--walk", FIT[0], *pools[:2], "segment(10, nil)", "--json")
         self.assertEqual((status, [found["answer"] for found in json.loads(out)["results"]]), (1, ["fits", "does not fit"]))
 
@@ -195,12 +220,11 @@ class Command(unittest.TestCase):
         self.assertEqual((status, out.decode().splitlines()[2:]), (0, ["2 pools: 2 fit"]))
 
     def test_several_pools_that_are_not_answered(self):
-        """What a no is worth stands there once, and a yes among them is a yes."""
-        with mock.patch.object(library, "walk", side_effect=[(0, 0), (0, 1), (0, 0)]):
-            status, out, _ = run_inside("ask", "--walk", QUEUE[0], *[QUEUE[1]] * 3, QUEUE[2])
+        """Why stands there once."""
+        status, out, _ = run_inside("ask", "--walk", QUEUE[0], *[QUEUE[1]] * 3, QUEUE[2])
         rows = out.decode().splitlines()
-        self.assertEqual((status, rows[3]), (2, "3 pools: 1 fits, 2 not answered"))
-        self.assertEqual([row.split("   ")[-1].strip() for row in rows[:3]], ["not answered", "fits", "not answered"])
+        self.assertEqual((status, rows[3]), (2, "3 pools: 0 fit, 3 not answered"))
+        self.assertEqual([row.split("   ")[-1].strip() for row in rows[:3]], ["not answered"] * 3)
         self.assertRegex(rows[4], "^A pool that is not answered may fit or not: ")
         self.assertEqual((rows[6], len(rows)), (f"  {REASON}", 10))
 
@@ -254,7 +278,7 @@ class Documented(unittest.TestCase):
     TREE = "tree { a = nil => tree(a, up) | a != nil * a -> (up, l, r) * tree(l, a) * tree(r, a) => tree(a, up) } ; "
 
     def verdict(self, book_text: str, pool_text: str, question_text: str, plain: bool = True) -> str:
-        """The walk's, where it is also the engine's, or the book is not plain."""
+        """The walk's, which is the engine's, or none where the book is not plain."""
         book, pool = parse_book(book_text, "book"), parse_pool(pool_text, "pool")
         question = parse_question(question_text, book)
         found = walked(book, pool, question).kind
@@ -286,7 +310,7 @@ class Documented(unittest.TestCase):
         fit = "1: nil, nil", "1: 2, 2\n2: nil", "1: 2, 3\n2: 3\n3: nil"
         for pool, due in (*((each, FITS) for each in fit), ("1: 2, nil\n2: nil", DOES_NOT_FIT)):
             self.assertEqual(self.verdict(self.SEGMENT + handed_on, pool, "queue(1)"), due)
-            self.assertEqual(self.verdict(self.SEGMENT + once, pool, "queue(1)", plain=False), due if due == FITS else NOT_ANSWERED)
+            self.assertEqual(self.verdict(self.SEGMENT + once, pool, "queue(1)", plain=False), NOT_ANSWERED)
 
     def test_rules_that_differ_in_a_code(self):
         cases = "a != nil * a -> 0x51, n * list(n) => list(a)", "a != nil * a -> 0x54, n * list(n) => list(a)"
@@ -340,7 +364,7 @@ def plain_book(chance: Random) -> Book:
 
 class BesideTheEngine(unittest.TestCase):
     def verdicts(self, book: Book, pool: Pool, question: Question) -> tuple[int, int]:
-        """The walk's and the engine's."""
+        """The walk's and the engine's, of a plain book."""
         blocks = encode_book(book), encode_pool(pool), encode_question(question)
         refusal, walked = library.walk(*blocks)
         engine = library.decide(*blocks, 65_535)
@@ -367,20 +391,22 @@ class BesideTheEngine(unittest.TestCase):
                     fits[len(each.records) if engine else -1] += 1
         self.assertTrue(all(fits[records] > 5 for records in range(-1, 5)), fits)
 
-    def test_its_yes_is_the_engines_for_any_book(self):
+    def test_other_books_are_refused(self):
         chance = Random(13)
         for case in range(600):
             for book in (some_book(chance), H):
                 with self.subTest(case=case):
-                    walked, engine = self.verdicts(book, some_pool(chance), Question(0, tuple(chance.choices(range(7), k=2))))
-                    self.assertLessEqual(walked, engine)
+                    blocks = encode_book(book), encode_pool(some_pool(chance)), encode_question(Question(0, tuple(chance.choices(range(7), k=2))))
+                    self.assertEqual(library.walk(*blocks), (NOT_PLAIN, 0))
+                    self.assertEqual(library.decide(*blocks, 65_535).refusal, 0)
 
     def test_its_refusals_are_the_engines(self):
         for blocks in repository_blocks():
             with self.subTest(blocks=[block.hex(" ") for block in blocks]):
                 refusal, walked = library.walk(*blocks)
                 engine = library.decide(*blocks, 65_535)
-                # Where the engine's table is too short, the walk has a verdict all the same.
-                self.assertEqual(refusal, engine.refusal if engine.refusal < 10 else 0)
-                if engine.refusal < 10:
-                    self.assertLessEqual(walked, engine.verdict)
+                # Where the engine's table is too short, the walk answers all the same.
+                read = engine.refusal in (0, 11)
+                self.assertEqual(refusal, (NOT_PLAIN if not_plain(explain_book(blocks[0])) else 0) if read else engine.refusal)
+                if not (refusal or engine.refusal):
+                    self.assertEqual(walked, engine.verdict)

@@ -31,13 +31,13 @@ kind-equal b e = step (ℕ-discrete b 0)
 -- ---- links of the rule, by their numbers
 
 module _ (value : ℕ → ℕ) (rules : List ℕ) (at : ℕ) where
-  numbered-pure : (left right : Term) → equals left right among ruleAs value rules at .pures
+  pub numbered-pure : (left right : Term) → equals left right among ruleAs value rules at .pures
       → (k : ℕ) × (k < pureCount rules at) × (pureKind rules at k ≡ 0) × (left ≡ termAs value (pureLeft rules at k)) × (right ≡ termAs value (pureRight rules at k))
   numbered-pure left right m =
       let (k, h, e) = tabulate-out (pureCount rules at) (λ i. pureAs value rules (purePlace at i)) (equals left right) m in
       (k, h, kind-equal (pureKind rules at k) (ap (λ (p : Pure). p .kind) e), ap (λ (p : Pure). p .left) e, ap (λ (p : Pure). p .right) e)
 
-  numbered-field : (g : ℕ) (term : Term) → term among atomAs value rules (atomPlace at g) .fields
+  pub numbered-field : (g : ℕ) (term : Term) → term among atomAs value rules (atomPlace at g) .fields
       → (j : ℕ) × (j < atomSize rules at g) × (termAs value (atomField rules at g j) ≡ term)
   numbered-field g term m =
       let (b, listed, is) = Memᴰ·of-map (termAs value) (entries rules (atomPlace at g + 2) (atomSize rules at g)) m in

@@ -21,7 +21,7 @@ ghost use Rattle.finding.specs.Values.{Counted, Shaped};
 ghost use Rattle.finding.specs.Found.{Opened, FoundIn};
 
 // The beginning: the arguments stay, every bound variable is opened. The number of these.
-fn begin(rules: &RuleBlock, rule: usize, values: &mut Values) -> usize
+pub fn begin(rules: &RuleBlock, rule: usize, values: &mut Values) -> usize
     requires { ⌜ Shaped (now rules) rule × Counted (now values) 0 ⌝ }
     ensures { λ r. ⌜ Opened (headArity (now (rules .entry)) rule) (variablesIn (now (rules .entry)) rule) (now (values .entry)) (now (values .exit)) × Counted (now (values .exit)) r ⌝ }
 {

@@ -6,13 +6,13 @@ use Rattle.semantics.specs.{Lists._among_, RuleSet.Term, RuleSet.Rule, R
 use Rattle.semantics.specs.{Reader.Result, Reader.accepted, Reader.refused, Reader.andThen, Served.Served}
 use Rattle.semantics.specs.Formats.{Query, Input, readRuleSet, readSnapshot, readQuery, ladder}
 use Rattle.semantics.specs.{Tree.ByHand, Tree.Fits, Rounds.Ground, Plain.Fixed, Plain.Plain}
-use Rattle.semantics.specs.Walk.{unfoldedRules, unfoldedOnly, Walks, Walked}
+use Rattle.semantics.specs.Walk.{Walks, Walked}
 use Rattle.semantics.specs.Certificate.{LineHolds, Certificate, Trimmed}
 use Rattle.semantics.specs.Contract.{domainOf, FitsInput, SomeFits, CertificatePart, CertificateInput, Answers, Finds, Checks, DeskTakes}
 use Rattle.semantics.specs.Contract.{DeskChecks, Decided, Found, Checked, CheckedPart, DeskDecided, DeskChecked}
 use Rattle.semantics.proofs.SameGrounds.{SameGrounds, more-same, filled-same}
 use Rattle.semantics.proofs.ServedFacts.{computed, clash}
-use Rattle.semantics.proofs.{SameDomain.same-domain, UnfoldedRules.applies-more, UnfoldedRules.part-more, UnfoldedRules.fits-more}
+use Rattle.semantics.proofs.{SameDomain.same-domain, MoreRules.applies-more, MoreRules.part-more, MoreRules.fits-more}
 use Rattle.semantics.specs.declared.{Reply.Reply, PartReply.PartReply, CheckReply.CheckReply, WalkReply.WalkReply}
 
 -- ---- what is said of a rule set
@@ -30,7 +30,7 @@ module _ {a b : RuleSet} (same : SameRules a b) where
   fits-same : {heap : Heap} {p : ℕ} {vs : List ℕ} → Fits a heap p vs → Fits b heap p vs
   fits-same {heap} = fits-more a b heap (same .arities) kept
 
-  -- plainness, and the rules that the walk unfolds
+  -- plainness
   fixed-same : {rule : Rule} {term : Term} → Fixed a rule term → Fixed b rule term
   fixed-same Fixed.fixed-value = Fixed.fixed-value
   fixed-same (Fixed.of-head h) = Fixed.of-head (rw (same .arities) at h)
@@ -44,9 +44,6 @@ module _ {a b : RuleSet} (same : SameRules a b) where
     all-fixed = λ rule m v h. fixed-same (plain .all-fixed rule (rw (← same .rules) at m) v (rw (← same .arities) at h));
     exclusive = rw (same .rules, same .arities) at (plain .exclusive);
   }
-
-  unfolded-same : SameRules (unfoldedOnly a) (unfoldedOnly b)
-  unfolded-same = record { arities = same .arities; rules = ap unfoldedRules (same .rules); fixed = same .fixed }
 
   -- ground instances and certificates, over one domain; a certificate keeps its number of lines
   module _ {heap : Heap} {domain domain′ : List ℕ} (one : domain ≡ domain′) where
@@ -142,12 +139,9 @@ module _ (i : Input) {b : RuleSet} (same : SameRules (i .ruleSet) b) where
   desk-checks-same (DeskChecks.takes-not t e) = DeskChecks.takes-not (λ u. t (desk-takes (byRules i b) i (λ w. certificate-both .1) u)) e
 
   walks-same : {reply : WalkReply} → Walks i reply → Walks (byRules i b) reply
-  walks-same w = record {
-    unrefused = w .unrefused;
-    a-verdict = w .a-verdict;
-    right = λ v. fits-same (unfolded-same same) (w .right v);
-    exact = λ plain f. w .exact (plain-same (exchanged same) plain) (whole-both .1 f);
-  }
+  walks-same (Walks.not-plain n r) = Walks.not-plain (λ plain. n (plain-same (exchanged same) plain)) r
+  walks-same (Walks.fits plain f r) = Walks.fits (plain-same same plain) (whole-both .0 f) r
+  walks-same (Walks.fits-not plain n r) = Walks.fits-not (plain-same same plain) (λ f. n (whole-both .1 f)) r
 
 -- ---- from bytes
 

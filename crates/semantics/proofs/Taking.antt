@@ -16,7 +16,7 @@ use Rattle.semantics.proofs.{DomainFacts.member-true, DomainFacts.membe
 use Rattle.semantics.proofs.Evaluation.{every-in, every-out, both-in, both-out, flat-in, flat-out, meetsAll-in, meetsAll-out, takings-in, takings-out, joined-in, joined-out}
 use Rattle.semantics.proofs.CertificateTest.{ruleOf, positionsOf, valuesAt, callsOf, callsTest, conclusions, earlierTest, positionTest, lineTest, takesLine, takesLines, takes}
 
-getD-member : (rules : List Rule) (i : ℕ) → i < length rules → getD rules i blankRule among rules
+pub getD-member : (rules : List Rule) (i : ℕ) → i < length rules → getD rules i blankRule among rules
 getD-member [] i h = absurd (omega arith)
 getD-member (r ∷ rules) zero h = List·Memᴰ·head refl
 getD-member (r ∷ rules) (suc i) h = List·Memᴰ·tail (getD-member rules i (omega arith))

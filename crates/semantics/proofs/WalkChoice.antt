@@ -1,13 +1,13 @@
 -- The choice of a rule: its points-to atoms take free records, and the reasons why it cannot be chosen. In a plain rule set it can be chosen
 -- with the values found for its variables only.
-use mathlib.Core.{Bool.true, Bool.false, Bool.false≢true, Path._≡_, Path.refl, Path.sym, Path.ap, Path._∙_, Path.subst, Logic._↔_, Logic._≢_}
+use mathlib.Core.{Path._≡_, Path.refl, Path.sym, Path.ap, Path._∙_, Path.subst, Logic._↔_, Logic._≢_}
 use mathlib.Core.{Option.none, Option.some, List.List, List.[], List._∷_, List._++_}
 use Prim.Native.Nat.{ℕ, _+_, _^_, _<_}
 use lib.{ListN.length, ListN.getD}
 use Rattle.semantics.specs.RuleSet.{Pure, PointsTo, Rule, RuleSet, arity}
-use Rattle.semantics.specs.{Lists._among_, Heap.Record, Heap.Heap, Heap.Ordered, Heap.blank, Heap.Shares, Heap.Disjoint, Tree.Meets, Tree.asked, Tree.Takes, Plain.Plain, Walk.unfolded}
+use Rattle.semantics.specs.{Lists._among_, Heap.Record, Heap.Heap, Heap.Ordered, Heap.blank, Heap.Shares, Heap.Disjoint, Tree.Meets, Tree.asked, Tree.Takes, Plain.Plain}
 use Rattle.semantics.specs.{Found.Known, Found.Agrees, Found.AllFound, WalkOutcome.Marks, WalkOutcome.TakesFreely, WalkOutcome.Chosen, WalkOutcome.Choosable}
-use Rattle.semantics.proofs.{Addresses.address-once, UnfoldedRules.unfolded-in, UnfoldedRules.consumes-in, FoundFacts.none-open, FoundFacts.found-values}
+use Rattle.semantics.proofs.{Addresses.address-once, FoundFacts.none-open, FoundFacts.found-values}
 
 -- ---- one points-to atom before others
 
@@ -46,14 +46,14 @@ module _ {heap : Heap} {σ : List ℕ} {atom : PointsTo} {atoms : List PointsTo}
 
 module _ {ruleSet : RuleSet} {heap : Heap} {mask p : ℕ} {arguments : List ℕ} {rule : Rule} where
   -- it is chosen
-  pub chosen-by : {after : ℕ} (bound : List ℕ) → rule among ruleSet .rules → unfolded (rule .calls) (rule .points-to) ≡ true → p ≡ rule .head
+  pub chosen-by : {after : ℕ} (bound : List ℕ) → rule among ruleSet .rules → p ≡ rule .head
       → length arguments ≡ arity ruleSet (rule .head) → length bound ≡ rule .bound → ((pure : Pure) → pure among rule .pures → Meets (arguments ++ bound) pure)
       → TakesFreely heap (arguments ++ bound) (rule .points-to) mask after → Chosen ruleSet heap mask p arguments rule (arguments ++ bound) after
-  chosen-by bound m u e counted bound-counted meets t = record {
+  chosen-by bound m e counted bound-counted meets t = record {
     bound = bound;
     indices = t .indices;
     heads = e;
-    applies = record { listed = unfolded-in (ruleSet .rules) rule m u; arguments-counted = counted; bound-counted = bound-counted; meets = meets; takes = t .takes };
+    applies = record { listed = m; arguments-counted = counted; bound-counted = bound-counted; meets = meets; takes = t .takes };
     are-values = refl;
     marks = t .marks;
   }
@@ -63,10 +63,6 @@ module _ {ruleSet : RuleSet} {heap : Heap} {mask p : ℕ} {arguments : List ℕ}
   other-head n c = n (c .heads)
 
   module _ (plain : Plain ruleSet) where
-    -- it has calls and no points-to atom
-    pub not-unfolded : unfolded (rule .calls) (rule .points-to) ≡ false → ¬ Choosable ruleSet heap mask p arguments rule
-    not-unfolded e c = false≢true (sym e ∙ consumes-in (rule .calls) (rule .points-to) (plain .consuming rule (c .applies .listed)))
-
     module _ {env : Known} (found : AllFound ruleSet heap rule arguments env) where
       -- a variable has no value
       pub left-open : (v : ℕ) → v < length env → getD env v (some 0) ≡ none → ¬ Choosable ruleSet heap mask p arguments rule

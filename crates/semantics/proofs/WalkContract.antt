@@ -1,46 +1,74 @@
--- The contract of the walk. It can be met for all bytes: say yes exactly where the unfolded rules alone fit, which is decided as for any
--- rule set. It ties the walk to the engine: what fits by hand is what both speak of.
-use mathlib.Core.{Path._≡_, Path.refl, Path.sym, Path.ap, Path._∙_, Logic._↔_, Logic._≢_, Logic._⊎_, Logic.inl, Logic.inr, Logic.⊎-elim, Logic.by-cases, List.List}
+-- The contract of the walk. It fixes the whole reply, and there always is one, since it can be decided whether a rule set is plain and
+-- whether it fits. It ties the walk to the engine: what fits by hand is what both speak of.
+use mathlib.Core.{Path._≡_, Path.refl, Path.sym, Path.ap, Path._∙_, Logic._↔_, Logic._≢_, Logic._⊎_, Logic.inl, Logic.inr, Logic.⊎-elim, List.List}
 use Prim.Native.Nat.{ℕ, _≤_}
-use native.Mathlib.{Omega.arith, Decide.ℕ-discrete}
-use Rattle.semantics.specs.{Reader.accepted, Reader.refused, Formats.Input, Formats.ladder, Formats.WellFormedInput, Served.Served}
-use Rattle.semantics.specs.{Contract.FitsInput, Contract.Answers, Contract.Decided, Tree.Fits, Plain.Plain, Walk.unfoldedOnly, Walk.Walks, Walk.Walked}
-use Rattle.semantics.proofs.{FormatsFacts.ladder-read, FormatsFacts.ladder-number, Reached.fits-decided, EngineCall.one-ladder, UnfoldedRules.fits-unfolded, UnfoldedRules.fits-consuming}
-use Rattle.semantics.proofs.{UnfoldedRules.unfoldedInput, UnfoldedRules.input-unfolded}
+use native.Mathlib.Omega.{arith}
+use Rattle.semantics.specs.{Reader.accepted, Reader.refused, Refusals.notPlain, Formats.Input, Formats.ladder, Formats.WellFormedInput, Served.Served}
+use Rattle.semantics.specs.{Contract.FitsInput, Contract.Answers, Contract.Decided, Plain.Plain, Walk.refusalWalkReply, Walk.Walks, Walk.Walked}
+use Rattle.semantics.proofs.{FormatsFacts.ladder-read, FormatsFacts.ladder-number, Reached.fits-decided, EngineCall.one-ladder, PlainDecided.plain-decided}
 use Rattle.semantics.proofs.ServedFacts.{clash, same-input, served-answered, served-both, unread-exactly, serves}
 use Rattle.semantics.specs.declared.{Reply.Reply, WalkReply.WalkReply}
 
--- ---- what a verdict says
+-- ---- what an answer says
 
-module _ {i : Input} {r : WalkReply} (w : Walks i r) where
-  -- a yes, of any rule set
-  pub yes-fits : r .verdict ≡ 1 → FitsInput i
-  yes-fits e = fits-unfolded (i .ruleSet) (i .heap) (w .right e)
+module _ {i : Input} {r : WalkReply} where
+  -- none but a plain rule set is answered for
+  pub answers-plain : Walks i r → r .refusal ≡ 0 → Plain (i .ruleSet)
+  answers-plain (Walks.not-plain n e) z = absurd (omega (arith, z, ap (λ (s : WalkReply). s .refusal) e))
+  answers-plain (Walks.fits p f e) z = p
+  answers-plain (Walks.fits-not p n e) z = p
 
-  -- both verdicts, of a plain one
-  module _ (plain : Plain (i .ruleSet)) where
-    pub plain-yes : (r .verdict ≡ 1) ↔ FitsInput i
-    plain-yes = (yes-fits, w .exact plain)
+  plain-answers : Walks i r → Plain (i .ruleSet) → r .refusal ≡ 0
+  plain-answers (Walks.not-plain n e) p = absurd (n p)
+  plain-answers (Walks.fits p f e) q = ap (λ (s : WalkReply). s .refusal) e
+  plain-answers (Walks.fits-not p n e) q = ap (λ (s : WalkReply). s .refusal) e
 
-    pub plain-no : (r .verdict ≡ 0) ↔ (¬ FitsInput i)
-    plain-no = (
-      λ z f. omega (arith, w .exact plain f),
-      λ n. by-cases (ℕ-discrete (r .verdict) 1) (λ e. absurd (n (yes-fits e))) (λ d. omega (arith, w .a-verdict)),
-    )
+  -- any other is refused
+  not-plain-exactly : Walks i r → (r .refusal ≡ notPlain) ↔ (¬ Plain (i .ruleSet))
+  not-plain-exactly (Walks.not-plain n e) = (λ q. n, λ m. ap (λ (s : WalkReply). s .refusal) e)
+  not-plain-exactly (Walks.fits p f e) = (λ q. absurd (omega (arith, q, ap (λ (s : WalkReply). s .refusal) e)), λ m. absurd (m p))
+  not-plain-exactly (Walks.fits-not p n e) = (λ q. absurd (omega (arith, q, ap (λ (s : WalkReply). s .refusal) e)), λ m. absurd (m p))
 
+  walks-most : Walks i r → ((r .refusal ≡ 0) ⊎ (r .refusal ≡ notPlain)) × (r .verdict ≤ 1)
+  walks-most (Walks.not-plain n e) = (inr (ap (λ (s : WalkReply). s .refusal) e), omega (arith, ap (λ (s : WalkReply). s .verdict) e))
+  walks-most (Walks.fits p f e) = (inl (ap (λ (s : WalkReply). s .refusal) e), omega (arith, ap (λ (s : WalkReply). s .verdict) e))
+  walks-most (Walks.fits-not p n e) = (inl (ap (λ (s : WalkReply). s .refusal) e), omega (arith, ap (λ (s : WalkReply). s .verdict) e))
+
+  refused-alone : Walks i r → r .refusal ≢ 0 → r .verdict ≡ 0
+  refused-alone (Walks.not-plain n e) z = ap (λ (s : WalkReply). s .verdict) e
+  refused-alone (Walks.fits p f e) z = absurd (z (ap (λ (s : WalkReply). s .refusal) e))
+  refused-alone (Walks.fits-not p n e) z = absurd (z (ap (λ (s : WalkReply). s .refusal) e))
+
+  -- both verdicts are those by hand
+  pub walks-verdict : Walks i r → r .refusal ≡ 0 → ((r .verdict ≡ 1) ↔ FitsInput i) × ((r .verdict ≡ 0) ↔ (¬ FitsInput i))
+  walks-verdict (Walks.not-plain n e) z = absurd (omega (arith, z, ap (λ (s : WalkReply). s .refusal) e))
+  walks-verdict (Walks.fits p f e) z =
+      let one : r .verdict ≡ 1 = ap (λ (s : WalkReply). s .verdict) e in
+      ((λ q. f, λ g. one), (λ q. absurd (omega arith), λ n. absurd (n f)))
+  walks-verdict (Walks.fits-not p n e) z =
+      let none : r .verdict ≡ 0 = ap (λ (s : WalkReply). s .verdict) e in
+      ((λ q. absurd (omega arith), λ f. absurd (n f)), (λ q. n, λ m. none))
+
+-- one answer at most
+walks-same : {i : Input} {r s : WalkReply} → Walks i r → Walks i s → r ≡ s
+walks-same (Walks.not-plain n e) (Walks.not-plain m q) = e ∙ sym q
+walks-same (Walks.not-plain n e) (Walks.fits p f q) = absurd (n p)
+walks-same (Walks.not-plain n e) (Walks.fits-not p m q) = absurd (n p)
+walks-same (Walks.fits p f e) (Walks.not-plain n q) = absurd (n p)
+walks-same (Walks.fits p f e) (Walks.fits p′ f′ q) = e ∙ sym q
+walks-same (Walks.fits p f e) (Walks.fits-not p′ n q) = absurd (n f)
+walks-same (Walks.fits-not p n e) (Walks.not-plain m q) = absurd (m p)
+walks-same (Walks.fits-not p n e) (Walks.fits p′ f q) = absurd (n f)
+walks-same (Walks.fits-not p n e) (Walks.fits-not p′ m q) = e ∙ sym q
+
+-- and there is one: whether the rule set is plain and whether it fits can be decided
 walks-exists : (i : Input) → WellFormedInput i → (r : WalkReply) × Walks i r
-walks-exists i h =
-    by-cases (fits-decided (unfoldedInput i) (input-unfolded i h))
-    (λ f. (record { refusal = 0; verdict = 1 }, record { unrefused = refl; a-verdict = omega arith; right = λ e. f; exact = λ plain k. refl }))
-    (λ n. (
-      record { refusal = 0; verdict = 0 },
-      record {
-        unrefused = refl;
-        a-verdict = omega arith;
-        right = λ e. absurd (omega (arith, e));
-        exact = λ plain k. absurd (n (fits-consuming (i .ruleSet) (i .heap) (plain .consuming) k));
-      },
-    ))
+walks-exists i h = step (plain-decided (i .ruleSet) (h .valid .rules-formed)) (fits-decided i h)
+  where
+    step : Dec (Plain (i .ruleSet)) → Dec (FitsInput i) → (r : WalkReply) × Walks i r
+    step (no n) d = (refusalWalkReply notPlain, Walks.not-plain n refl)
+    step (yes p) (yes f) = (record { refusal = 0; verdict = 1 }, Walks.fits p f refl)
+    step (yes p) (no n) = (record { refusal = 0; verdict = 0 }, Walks.fits-not p n refl)
 
 -- the engine's verdict, where it does not refuse
 engine-verdict : {i : Input} {n part : ℕ} {r : Reply} {t x : List ℕ} → Answers i n (FitsInput i) part r t x → r .refusal ≡ 0
@@ -50,75 +78,60 @@ engine-verdict (Answers.fits rounds facts words f v u a c) z = inl (v, ap (λ (r
 engine-verdict (Answers.fits-not rounds facts f v a c) z = inr (v, ap (λ (r : Reply). r .verdict) a)
 
 module _ (book snapshot question : List ℕ) where
-  -- It can be met.
-  pub walked-exists : (r : WalkReply) × Walked book snapshot question r
-  walked-exists =
-      serves {Refuses = λ (r : WalkReply) (n : ℕ). r ≡ record { refusal = n; verdict = 0 }} {Answered = λ (r : WalkReply) (i : Input). Walks i r}
-      (ladder book snapshot question) refl (yes tt)
-      (λ n. (record { refusal = n; verdict = 0 }, refl))
-      (λ i e l. walks-exists i (ladder-read book snapshot question i e))
-
   -- what is read is walked
   pub walked-answer : {r : WalkReply} → Walked book snapshot question r → {i : Input} → ladder book snapshot question ≡ accepted i → Walks i r
   walked-answer d e = served-answered (one-ladder book snapshot question) d e tt
 
-  -- Each of 1 to 9 is given exactly where the ladder gives it.
+  -- It can be met for all bytes, by one reply.
+  pub walked-exists : (r : WalkReply) × Walked book snapshot question r
+  walked-exists =
+      serves {Refuses = λ (r : WalkReply) (n : ℕ). r ≡ refusalWalkReply n} {Answered = λ (r : WalkReply) (i : Input). Walks i r} (ladder book snapshot question) refl (yes tt)
+      (λ n. (refusalWalkReply n, refl)) (λ i e l. walks-exists i (ladder-read book snapshot question i e))
+
+  pub walked-same : {r s : WalkReply} → Walked book snapshot question r → Walked book snapshot question s → r ≡ s
+  walked-same d e = served-both (one-ladder book snapshot question) d e (λ n k l. k ∙ sym l) (λ i k l. walks-same k l)
+
+  -- Each of 1 to 9 is given exactly where the ladder gives it, and 12 exactly where all is read and the rule set is not plain.
   pub walked-refusal : {r : WalkReply} → Walked book snapshot question r → (n : ℕ) → 1 ≤ n → n ≤ 9 → (r .refusal ≡ n) ↔ (ladder book snapshot question ≡ refused n)
   walked-refusal {r} d n low high = unread-exactly (one-ladder book snapshot question) (r .refusal) shown n (λ e. omega arith) answered d
     where
-      shown : (m : ℕ) → r ≡ record { refusal = m; verdict = 0 } → r .refusal ≡ m
+      shown : (m : ℕ) → r ≡ refusalWalkReply m → r .refusal ≡ m
       shown m k = ap (λ (s : WalkReply). s .refusal) k
 
       answered : (i : Input) → Walks i r → r .refusal ≢ n
-      answered i w e = omega (arith, w .unrefused)
+      answered i w e = ⊎-elim (λ z. omega arith) (λ z. omega arith) (walks-most w .0)
 
-  -- No number beyond 9, and none exactly where all is read; no verdict beyond 1, and none with a refusal.
-  pub walked-unrefused : {r : WalkReply} → Walked book snapshot question r → (r .refusal ≡ 0) ↔ ((i : Input) × (ladder book snapshot question ≡ accepted i))
-  walked-unrefused {r} d = (by d, λ (i, e). walked-answer d e .unrefused)
+  pub walked-not-plain : {r : WalkReply} → Walked book snapshot question r
+      → (r .refusal ≡ notPlain) ↔ ((i : Input) × (ladder book snapshot question ≡ accepted i) × (¬ Plain (i .ruleSet)))
+  walked-not-plain {r} d = (by d, λ (i, e, n). not-plain-exactly (walked-answer d e) .1 n)
     where
-      by : Walked book snapshot question r → r .refusal ≡ 0 → (i : Input) × (ladder book snapshot question ≡ accepted i)
-      by (Served.unread n e k) z = absurd (omega (arith, ap (λ (s : WalkReply). s .refusal) k, ladder-number book snapshot question n e .0))
+      by : Walked book snapshot question r → r .refusal ≡ notPlain → (i : Input) × (ladder book snapshot question ≡ accepted i) × (¬ Plain (i .ruleSet))
+      by (Served.unread n e k) z = absurd (omega (arith, z, ap (λ (s : WalkReply). s .refusal) k, ladder-number book snapshot question n e .1))
       by (Served.unlent i e l k) z = absurd (l tt)
-      by (Served.answered i e l w) z = (i, e)
+      by (Served.answered i e l w) z = (i, e, not-plain-exactly w .0 z)
 
-  pub walked-most : {r : WalkReply} → Walked book snapshot question r → (r .refusal ≤ 9) × (r .verdict ≤ 1)
+  -- None exactly where all is read and the rule set is plain. No other number; no verdict beyond 1, and none with a refusal.
+  pub walked-unrefused : {r : WalkReply} → Walked book snapshot question r
+      → (r .refusal ≡ 0) ↔ ((i : Input) × (ladder book snapshot question ≡ accepted i) × Plain (i .ruleSet))
+  walked-unrefused {r} d = (by d, λ (i, e, p). plain-answers (walked-answer d e) p)
+    where
+      by : Walked book snapshot question r → r .refusal ≡ 0 → (i : Input) × (ladder book snapshot question ≡ accepted i) × Plain (i .ruleSet)
+      by (Served.unread n e k) z = absurd (omega (arith, z, ap (λ (s : WalkReply). s .refusal) k, ladder-number book snapshot question n e .0))
+      by (Served.unlent i e l k) z = absurd (l tt)
+      by (Served.answered i e l w) z = (i, e, answers-plain w z)
+
+  pub walked-most : {r : WalkReply} → Walked book snapshot question r → ((r .refusal ≤ 9) ⊎ (r .refusal ≡ notPlain)) × (r .verdict ≤ 1)
   walked-most (Served.unread n e k) = (
-    omega (arith, ap (λ (s : WalkReply). s .refusal) k, ladder-number book snapshot question n e .1),
+    inl (omega (arith, ap (λ (s : WalkReply). s .refusal) k, ladder-number book snapshot question n e .1)),
     omega (arith, ap (λ (s : WalkReply). s .verdict) k),
   )
   walked-most (Served.unlent i e l k) = absurd (l tt)
-  walked-most (Served.answered i e l w) = (omega (arith, w .unrefused), w .a-verdict)
+  walked-most (Served.answered i e l w) = (⊎-elim (λ z. inl (omega arith)) (λ z. inr z) (walks-most w .0), walks-most w .1)
 
   pub walked-refused-alone : {r : WalkReply} → Walked book snapshot question r → r .refusal ≢ 0 → r .verdict ≡ 0
   walked-refused-alone (Served.unread n e k) z = ap (λ (s : WalkReply). s .verdict) k
   walked-refused-alone (Served.unlent i e l k) z = absurd (l tt)
-  walked-refused-alone (Served.answered i e l w) z = absurd (z (w .unrefused))
-
-  module _ (i : Input) (e : ladder book snapshot question ≡ accepted i) where
-    -- Where the unfolded rules do not fit, it says no.
-    pub walk-no-without : {r : WalkReply} → Walked book snapshot question r → ¬ Fits (unfoldedOnly (i .ruleSet)) (i .heap) (i .predicate) (i .values) → r .verdict ≡ 0
-    walk-no-without {r} d n = let w = walked-answer d e in by-cases (ℕ-discrete (r .verdict) 1) (λ v. absurd (n (w .right v))) (λ v. omega (arith, w .a-verdict))
-
-    -- Where they do, a rule set that is not plain leaves the choice.
-    pub walked-yes-allowed : Fits (unfoldedOnly (i .ruleSet)) (i .heap) (i .predicate) (i .values) → Walked book snapshot question (record { refusal = 0; verdict = 1 })
-    walked-yes-allowed f = Served.answered i e tt (record { unrefused = refl; a-verdict = omega arith; right = λ v. f; exact = λ plain k. refl })
-
-    pub walked-no-allowed : ¬ Plain (i .ruleSet) → Walked book snapshot question (record { refusal = 0; verdict = 0 })
-    walked-no-allowed n = Served.answered i e tt (record { unrefused = refl; a-verdict = omega arith; right = λ v. absurd (omega (arith, v)); exact = λ plain k. absurd (n plain) })
-
-  -- Two replies differ at most in the verdict.
-  pub walked-refusals : {r s : WalkReply} → Walked book snapshot question r → Walked book snapshot question s → r .refusal ≡ s .refusal
-  walked-refusals d e =
-      served-both (one-ladder book snapshot question) d e (λ n k l. ap (λ (r : WalkReply). r .refusal) (k ∙ sym l)) (λ i k l. k .unrefused ∙ sym (l .unrefused))
-
-  -- For a plain rule set they do not differ there.
-  pub walked-verdicts : {r s : WalkReply} → Walked book snapshot question r → Walked book snapshot question s → (i : Input) → ladder book snapshot question ≡ accepted i
-      → Plain (i .ruleSet) → r .verdict ≡ s .verdict
-  walked-verdicts {r} {s} d d′ i e plain =
-      let a = walked-answer d e in
-      let b = walked-answer d′ e in
-      by-cases (ℕ-discrete (r .verdict) 1) (λ v. v ∙ sym (b .exact plain (yes-fits a v)))
-      (λ n. let z : r .verdict ≡ 0 = omega (arith, a .a-verdict) in z ∙ sym (plain-no b plain .1 (plain-no a plain .0 z)))
+  walked-refused-alone (Served.answered i e l w) z = refused-alone w z
 
   module _ (table space : List ℕ) {r : Reply} {t x : List ℕ} (decided : Decided book snapshot question table space r t x) (unrefused : r .refusal ≡ 0) where
     -- What the engine answers was read.
@@ -130,18 +143,9 @@ module _ (book snapshot question : List ℕ) where
         by (Served.unlent j d l k) = absurd (omega (arith, ap (λ (r : Reply). r .refusal) (k .is-reply)))
         by (Served.answered j d l a) = rw (same-input (one-ladder book snapshot question) e d) (engine-verdict a unrefused)
 
-    module _ {w : WalkReply} (walked : Walked book snapshot question w) where
-      -- A yes of the walk is one of the engine.
-      pub walk-yes-engine : w .verdict ≡ 1 → r .verdict ≡ 1
-      walk-yes-engine e = by walked
-        where
-          by : Walked book snapshot question w → r .verdict ≡ 1
-          by (Served.unread n d k) = absurd (omega (arith, ap (λ (s : WalkReply). s .verdict) k))
-          by (Served.unlent j d l k) = absurd (l tt)
-          by (Served.answered j d l a) = ⊎-elim (λ (f, v). v) (λ (n, v). absurd (n (yes-fits a e))) (engine-answer d)
-
-      -- For a plain rule set the two verdicts are one.
-      pub walk-is-engine : (i : Input) → ladder book snapshot question ≡ accepted i → Plain (i .ruleSet) → w .verdict ≡ r .verdict
-      walk-is-engine i e plain =
-          let a = walked-answer walked e in
-          ⊎-elim (λ (f, v). a .exact plain f ∙ sym v) (λ (n, v). plain-no a plain .1 n ∙ sym v) (engine-answer e)
+    -- Where neither refuses, the two verdicts are one.
+    pub walk-is-engine : {w : WalkReply} → Walked book snapshot question w → w .refusal ≡ 0 → w .verdict ≡ r .verdict
+    walk-is-engine walked z =
+        let (i, e, plain) = walked-unrefused walked .0 z in
+        let says = walks-verdict (walked-answer walked e) z in
+        ⊎-elim (λ (f, v). says .0 .1 f ∙ sym v) (λ (n, v). says .1 .1 n ∙ sym v) (engine-answer e)

@@ -8,7 +8,7 @@ use native.Mathlib.Omega.{arith}
 use lib.ListN.{length, length-append}
 use Rattle.semantics.specs.{RuleSet.Call, RuleSet.Rule, RuleSet.RuleSet, Heap.Heap, Heap.Ordered, Tree.valuesOf, Tree.Tree, Tree.Forest, Plain.Plain}
 use Rattle.semantics.specs.WalkOutcome.{Marks, WalkOutcome, FittingCalls, CallsOutcome, Chosen, Choosable}
-use Rattle.semantics.proofs.{Addresses.takes-length, Precision.one-step, Precision.tree-same, UnfoldedRules.applies-unfolded, UnfoldedRules.tree-unfolded}
+use Rattle.semantics.proofs.{Addresses.takes-length, Precision.one-step, Precision.tree-same}
 use Rattle.semantics.proofs.Marking.{marks-append, marks-split, marks-same}
 
 some-long : {A : Type 0} (xs : List A) → xs ≢ [] → 1 ≤ length xs
@@ -43,7 +43,7 @@ module _ (ruleSet : RuleSet) (heap : Heap) where
         by : Plain ruleSet → {taken : List ℕ} {after : ℕ} → Forest ruleSet heap σ (call ∷ calls) taken → Marks mask taken after → (call ∷ calls ≢ [] → length taken < fuel) → ⊥
         by plain {after = after} (Forest.next here rest tree forest t) m short =
             let (m′, m₁, m₂) = marks-split here (rw t at m) in
-            let same : here ≡ w .taken = tree-same ruleSet heap ordered plain tree (tree-unfolded ruleSet heap (w .tree)) in
+            let same : here ≡ w .taken = tree-same ruleSet heap ordered plain tree (w .tree) in
             let one : m′ ≡ middle = marks-same same m₁ (w .marks) in
             let h = short (λ e. cons≢nil e) in
             n plain (record { taken = rest; after = after; forest = forest; marks = rw one at m₂; short = λ z. omega (arith, length-append here rest, ap length t) })
@@ -57,7 +57,7 @@ module _ (ruleSet : RuleSet) (heap : Heap) where
             → Tree ruleSet heap p arguments taken → Marks mask taken last → length taken < suc fuel → ⊥
         only plain n {last = last} (Tree.node other b is below e a forest t) m short =
             let (m′, m₁, m₂) = marks-split is (rw t at m) in
-            let s = one-step ruleSet heap ordered plain (sym e ∙ c .heads) a (applies-unfolded ruleSet heap (c .applies)) in
+            let s = one-step ruleSet heap ordered plain (sym e ∙ c .heads) a (c .applies) in
             let one : m′ ≡ after = marks-same (s .same-indices) m₁ (c .marks) in
             n (record {
               taken = below;
@@ -67,7 +67,7 @@ module _ (ruleSet : RuleSet) (heap : Heap) where
               short = λ calls.
                   omega (
                     arith,
-                    some-long (rule .points-to) (plain .consuming rule (applies-unfolded ruleSet heap (c .applies) .listed) calls),
+                    some-long (rule .points-to) (plain .consuming rule (c .applies .listed) calls),
                     takes-length (c .applies .takes),
                     length-append is below,
                     ap length t,

@@ -1,18 +1,18 @@
 -- The verdict of a walk that began with no record taken: fits, if every record is marked at its end. Then the tree that was found takes
 -- them all. Where a tree by hand takes them all and the rule set is plain, the walk ends with some tree, as its outcome promises, and by
 -- precision that tree takes the same records.
-use mathlib.Core.{Path._≡_, Path.refl, Path.ap, Option.Option, Option.none, Option.some, Option.Option·none-ne-some, Option.Option·some-injective, List.List, List.[], List.List·Memᴰ·not-nil}
+use mathlib.Core.{Path._≡_, Path.ap, Option.Option, Option.none, Option.some, Option.Option·none-ne-some, Option.Option·some-injective, List.List, List.[], List.List·Memᴰ·not-nil}
 use Prim.Native.Nat.{ℕ, _<_}
 use native.Mathlib.Omega.{arith}
 use lib.ListN.{length}
 use Rattle.semantics.specs.{Lists.Distinct, RuleSet.RuleSet, Heap.Heap, Heap.Ordered, Heap.setOf, Heap.wholeOf, Formats.Input, Formats.WellFormedInput, Tree.Fits}
-use Rattle.semantics.specs.{Plain.Plain, Walk.unfoldedOnly, Walk.Walks, WalkOutcome.Marks, WalkOutcome.WalkOutcome}
-use Rattle.semantics.proofs.{Bits.whole-set, Bits.whole-members, Parts.tree-below, Termination.few-below, Precision.tree-same, UnfoldedRules.tree-unfolded}
+use Rattle.semantics.specs.{Plain.Plain, Walk.Walks, WalkOutcome.Marks, WalkOutcome.WalkOutcome}
+use Rattle.semantics.proofs.{Bits.whole-set, Bits.whole-members, Parts.tree-below, Termination.few-below, Precision.tree-same}
 use Rattle.semantics.proofs.Marking.{marks-out, marks-in, marks-same}
 
 module _ (ruleSet : RuleSet) (heap : Heap) (p : ℕ) (vs : List ℕ) (fuel : ℕ) where
-  -- every record is marked: a tree of unfolded rules takes all
-  whole-right : {o : Option ℕ} → WalkOutcome ruleSet heap fuel p vs 0 o → o ≡ some (wholeOf heap) → Fits (unfoldedOnly ruleSet) heap p vs
+  -- every record is marked: a tree takes all
+  whole-right : {o : Option ℕ} → WalkOutcome ruleSet heap fuel p vs 0 o → o ≡ some (wholeOf heap) → Fits ruleSet heap p vs
   whole-right (WalkOutcome.nothing n) e = absurd (Option·none-ne-some (wholeOf heap) e)
   whole-right (WalkOutcome.found {after = after} w) e =
       let q : after ≡ wholeOf heap = Option·some-injective after (wholeOf heap) e in
@@ -30,25 +30,18 @@ module _ (ruleSet : RuleSet) (heap : Heap) (p : ℕ) (vs : List ℕ) (fuel : ℕ
       by : Marks 0 (f .taken) (wholeOf heap) → length (f .taken) < fuel → {o : Option ℕ} → WalkOutcome ruleSet heap fuel p vs 0 o → o ≡ some (wholeOf heap)
       by m short (WalkOutcome.nothing n) = absurd (n plain (record { taken = f .taken; after = wholeOf heap; tree = f .tree; marks = m; short = short }))
       by m short (WalkOutcome.found w) =
-          ap {B = Option ℕ} some (marks-same (tree-same ruleSet heap ordered plain (tree-unfolded ruleSet heap (w .tree)) (f .tree)) (w .marks) m)
+          ap {B = Option ℕ} some (marks-same (tree-same ruleSet heap ordered plain (w .tree) (f .tree)) (w .marks) m)
 
 -- The two ways in which a walk ends: every record is marked, or not.
 pub data Ends (heap : Heap) (o : Option ℕ) (verdict : ℕ) : Type 0 where
   whole : o ≡ some (wholeOf heap) → verdict ≡ 1 → Ends heap o verdict
   not-whole : ¬ (o ≡ some (wholeOf heap)) → verdict ≡ 0 → Ends heap o verdict
 
--- Whatever has the outcome of a walk keeps the promise of `walk`.
-pub outcome-walks : (i : Input) → WellFormedInput i → (fuel : ℕ) → length (i .heap) < fuel → {o : Option ℕ}
+-- Whatever has the outcome of a walk keeps the promise of `walk`, for a plain rule set.
+pub outcome-walks : (i : Input) → WellFormedInput i → Plain (i .ruleSet) → (fuel : ℕ) → length (i .heap) < fuel → {o : Option ℕ}
     → WalkOutcome (i .ruleSet) (i .heap) fuel (i .predicate) (i .values) 0 o → {verdict : ℕ} → Ends (i .heap) o verdict → Walks i (record { refusal = 0; verdict = verdict })
-outcome-walks i h fuel enough out (Ends.whole e v) = record {
-  unrefused = refl;
-  a-verdict = omega arith;
-  right = λ q. whole-right (i .ruleSet) (i .heap) (i .predicate) (i .values) fuel out e;
-  exact = λ plain f. v;
-}
-outcome-walks i h fuel enough out (Ends.not-whole n v) = record {
-  unrefused = refl;
-  a-verdict = omega arith;
-  right = λ q. absurd (omega arith);
-  exact = λ plain f. absurd (n (whole-exact (i .ruleSet) (i .heap) (i .predicate) (i .values) fuel enough (h .valid .heap-formed .ordered) plain f out));
-}
+outcome-walks i h plain fuel enough out (Ends.whole e v) =
+    Walks.fits plain (whole-right (i .ruleSet) (i .heap) (i .predicate) (i .values) fuel out e) (ap (λ (n : ℕ). record { refusal = 0; verdict = n }) v)
+outcome-walks i h plain fuel enough out (Ends.not-whole n v) =
+    Walks.fits-not plain (λ f. n (whole-exact (i .ruleSet) (i .heap) (i .predicate) (i .values) fuel enough (h .valid .heap-formed .ordered) plain f out))
+    (ap (λ (m : ℕ). record { refusal = 0; verdict = m }) v)

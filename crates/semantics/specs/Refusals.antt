@@ -45,3 +45,7 @@ memorySize = 10
 -- More facts hold than the table has lines.
 abbrev pub tooManyFacts : ℕ
 tooManyFacts = 11
+
+-- The book is not plain: only the walk asks for it.
+abbrev pub notPlain : ℕ
+notPlain = 12

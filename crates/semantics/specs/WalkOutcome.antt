@@ -1,10 +1,10 @@
--- What the functions that a walk is made of promise. The walk carries a mask of the records taken so far. What it finds is a tree of
--- unfolded rules, all of whose records were free; where it finds none, a plain rule set has no such tree of fewer records than the fuel.
+-- What the functions that a walk is made of promise. The walk carries a mask of the records taken so far. What it finds is a tree, all
+-- of whose records were free; where it finds none, a plain rule set has no such tree of fewer records than the fuel.
 use mathlib.Core.Option.{Option}
 use mathlib.Core.{List.List, List.[], List._∷_, List._++_, Path._≡_, Logic._≢_}
 use Prim.Native.Nat.{ℕ, _+_, _^_, _<_}
 use lib.ListN.{length}
-use Rattle.semantics.specs.{RuleSet.PointsTo, RuleSet.Call, RuleSet.Rule, RuleSet.RuleSet, Heap.Heap, Heap.Disjoint, Plain.Plain, Walk.unfoldedOnly}
+use Rattle.semantics.specs.{RuleSet.PointsTo, RuleSet.Call, RuleSet.Rule, RuleSet.RuleSet, Heap.Heap, Heap.Disjoint, Plain.Plain}
 use Rattle.semantics.specs.Tree.{Takes, Applies, Tree, Forest}
 
 -- Records are taken one by one, each of them free before: the mask goes from `mask` to `after`.
@@ -21,13 +21,13 @@ pub record TakesFreely (heap : Heap) (σ : List ℕ) (atoms : List PointsTo) (ma
 module _ (ruleSet : RuleSet) (heap : Heap) where
   -- ---- a predicate with its arguments
 
-  -- A tree of unfolded rules that takes free records.
+  -- A tree that takes free records.
   pub record Unfolded (predicate : ℕ) (arguments : List ℕ) (mask after : ℕ) : Type 0 where
     pub taken : List ℕ
-    pub tree : Tree (unfoldedOnly ruleSet) heap predicate arguments taken
+    pub tree : Tree ruleSet heap predicate arguments taken
     pub marks : Marks mask taken after
 
-  -- A tree of any rules that takes free records, fewer of them than the fuel.
+  -- The same with fewer records than the fuel.
   pub record Fitting (fuel predicate : ℕ) (arguments : List ℕ) (mask : ℕ) : Type 0 where
     pub taken : List ℕ
     pub after : ℕ
@@ -44,7 +44,7 @@ module _ (ruleSet : RuleSet) (heap : Heap) where
 
   pub record UnfoldedCalls (σ : List ℕ) (calls : List Call) (mask after : ℕ) : Type 0 where
     pub taken : List ℕ
-    pub forest : Forest (unfoldedOnly ruleSet) heap σ calls taken
+    pub forest : Forest ruleSet heap σ calls taken
     pub marks : Marks mask taken after
 
   -- Where there is a call, the records are fewer than the fuel.
@@ -61,16 +61,16 @@ module _ (ruleSet : RuleSet) (heap : Heap) where
 
   -- ---- which rule to go on with
 
-  -- An unfolded rule with values σ for its variables: it applies, and its points-to atoms take free records.
+  -- A rule with values σ for its variables: it applies, and its points-to atoms take free records.
   pub record Chosen (mask predicate : ℕ) (arguments : List ℕ) (rule : Rule) (σ : List ℕ) (after : ℕ) : Type 0 where
     pub bound : List ℕ
     pub indices : List ℕ
     pub heads : predicate ≡ rule .head
-    pub applies : Applies (unfoldedOnly ruleSet) heap rule arguments bound indices
+    pub applies : Applies ruleSet heap rule arguments bound indices
     pub are-values : σ ≡ arguments ++ bound
     pub marks : Marks mask indices after
 
-  -- The same of any rule, with some values.
+  -- The same with some values.
   pub record Choosable (mask predicate : ℕ) (arguments : List ℕ) (rule : Rule) : Type 0 where
     pub bound : List ℕ
     pub indices : List ℕ

@@ -5,6 +5,8 @@ pub const MEMORY_SIZE: u64 = 10;
 
 pub const TOO_MANY_FACTS: u64 = 11;
 
+pub const NOT_PLAIN: u64 = 12;
+
 // The engine's reply. Verdict 1 is fits, 0 does not fit; lines is the certificate's number of lines.
 pub struct Reply {
     pub refusal: u64,
@@ -30,7 +32,7 @@ pub struct CheckReply {
     pub taken: u64,
 }
 
-// The reply of the quick walk. Verdict 1 is fits; in a book that is not plain, 0 says nothing.
+// The reply of the quick walk. Verdict 1 is fits; 0 is does not fit, or stands beside a refusal.
 pub struct WalkReply {
     pub refusal: u64,
     pub verdict: u64,

@@ -1,79 +1,33 @@
 -- A rule tried with the values found for its variables: it is chosen if all are found, its pure conditions are met and its points-to atoms
 -- take free records; otherwise a plain rule set leaves no way to choose it.
-use mathlib.Core.{Bool.Bool, Bool.true, Bool.false, Bool.false≢true, Path._≡_, Path.refl, Path.sym, Path.ap, Path._∙_, Path.subst, Logic._≢_, Logic.inl, Logic.inr, Logic.⊎-elim, Logic.by-cases, Logic._⊎_}
-use mathlib.Core.{Option.some, List.List, List.[], List._∷_, List._++_, List.List·Memᴰ·head, List.List·Memᴰ·tail, List.List·Memᴰ·cases-cons}
+use mathlib.Core.{Bool.Bool, Bool.true, Bool.false, Bool.false≢true, Path._≡_, Path.refl, Path.sym, Path.ap, Path._∙_, Path.subst, Logic._≢_, Logic.by-cases}
+use mathlib.Core.{Option.some, List.List, List._++_, List.List·Memᴰ·head, List.List·Memᴰ·tail}
 use Prim.Native.Nat.{ℕ, _+_, _-_, _≤_, _<_}
-use native.Mathlib.{Omega.arith, Decide.ℕ-discrete, Decide.decLt}
+use native.Mathlib.{Omega.arith, Decide.decLt}
 use lib.{ListN.length, ListN.getD, ListN.take, ListN.drop, ListN.length-drop, ListN.take-append-drop, Seq.getD-take, Seq.length-take-le, Seq.ext-getD}
 use Rattle.semantics.specs.RuleSet.{PointsTo, Pure, fixedValues, variables, arity}
-use Rattle.semantics.specs.{Lists._among_, Heap.Heap, Tree.Meets, Tree.asked, Tree.Takes, Walk.unfolded, WalkOutcome.TakesFreely, WalkOutcome.Chosen, Found.Agrees, Found.AllFound}
-use Rattle.semantics.proofs.{UnfoldedRules.consumes-in, WalkChoice.chosen-by, WalkChoice.left-open, WalkChoice.not-met, WalkChoice.not-free}
-use Rattle.words.proofs.Tabulate.{tabulate-length, tabulate-in, tabulate-out}
-use Rattle.block.specs.Layout.{pureAs, atomAs, callAs, ruleAs, ruleSetAs, ruleSetRead, fixedIn, constantsIn, heapIn, ruleCount, rulePlace, arityIn, headIn, headArity, boundIn, pureCount, atomCount, callCount, purePlace, atomPlace, callPlace}
+use Rattle.semantics.specs.{Lists._among_, Heap.Heap, Tree.Meets, Tree.asked, Tree.Takes, WalkOutcome.TakesFreely, WalkOutcome.Chosen, Found.Agrees, Found.AllFound}
+use Rattle.semantics.proofs.{WalkChoice.chosen-by, WalkChoice.left-open, WalkChoice.not-met, WalkChoice.not-free}
+use Rattle.words.proofs.Tabulate.{tabulate-in, tabulate-out}
+use Rattle.block.specs.Layout.{pureAs, ruleAs, ruleSetRead, fixedIn, constantsIn, heapIn, arityIn, headIn, headArity, boundIn, pureCount, purePlace}
 use Rattle.block.specs.Ready.{variablesIn}
-use Rattle.block.proofs.{RuleAs.rule-listed, RuleAs.rules-are, RuleAs.head-arity-is, RuleAs.variables-are, RuleAs.ready-rule, Values.StartsWith, Values.meets-same, Values.asked-same}
+use Rattle.block.proofs.{RuleAs.rule-listed, RuleAs.head-arity-is, RuleAs.variables-are, Values.StartsWith, Values.meets-same, Values.asked-same}
 use Rattle.finding.specs.{Values.openEntry, Values.opens, Values.knownIn, Values.Counted, Found.FoundIn}
 use Rattle.finding.proofs.{Opens.opens-none, Opens.opens-some, Known.entry-has, Known.open-entry, Known.known-long, Known.known-agrees}
 use Rattle.walk.specs.Taking.{PuresMet, TakesAll, TakesEach}
-use Rattle.walk.specs.Walk.{RulesReadable, Readable, RulePlace, Serves, argumentsIn, valuesIn, ChosenAt, NotChosen, Attempts}
+use Rattle.plain.specs.Plain.{RulesReadable, RulePlace}
+use Rattle.plain.proofs.Places.{fixed-fits}
+use Rattle.walk.specs.Walk.{Readable, argumentsIn, valuesIn, ChosenAt, NotChosen, Attempts}
 
 -- ---- the rule at a place
-
--- every fixed value is below the bound
-fixed-fits : (given rules : List ℕ) → RulesReadable given rules → (v : ℕ) → v among fixedValues (ruleSetRead given rules) → v < openEntry
-unfolding ruleSetAs
-fixed-fits given rules read v m = ⊎-elim (λ e. omega (arith, e)) (read .constants-fit v) (List·Memᴰ·cases-cons m)
-
-pub place-of : (given rules heap : List ℕ) → Readable given rules heap → (r : ℕ) → r < ruleCount rules → RulePlace given rules (rulePlace r)
-place-of given rules heap readable r h =
-    let formed = readable .rules-read .formed in
-    let well = formed .each (ruleAs (fixedIn given) rules (rulePlace r)) (rule-listed (fixedIn given) (constantsIn given) rules r h) in
-    record {
-      number = r;
-      below = h;
-      is-place = refl;
-      well = well;
-      formed = record {
-        inside = omega (arith, rules-are (fixedIn given) (constantsIn given) rules, formed .rules-few);
-        ready = ready-rule (fixedIn given) (constantsIn given) rules formed (rulePlace r) well (λ b l m. fixed-fits given rules (readable .rules-read) (fixedIn given (b - 128)) m);
-      };
-    }
-
-empty-long : {A : Type 0} (xs : List A) → length xs ≡ 0 → xs ≡ []
-empty-long [] e = refl
-empty-long (x ∷ xs) e = absurd (omega arith)
-
-long-empty : {A : Type 0} (xs : List A) → xs ≡ [] → length xs ≡ 0
-long-empty {A} xs e = ap (λ (l : List A). length l) e
 
 module _ {given rules : List ℕ} {rule : ℕ} (place : RulePlace given rules rule) where
   listed : ruleAs (fixedIn given) rules rule among ruleSetRead given rules .rules
   listed = rw (place .is-place) (rule-listed (fixedIn given) (constantsIn given) rules (place .number) (place .below))
 
-  calls-long : length (ruleAs (fixedIn given) rules rule .calls) ≡ callCount rules rule
-  calls-long = tabulate-length (callCount rules rule) (λ i. callAs (fixedIn given) rules (callPlace rule i))
-
-  atoms-long : length (ruleAs (fixedIn given) rules rule .points-to) ≡ atomCount rules rule
-  atoms-long = tabulate-length (atomCount rules rule) (λ i. atomAs (fixedIn given) rules (atomPlace rule i))
-
-  -- it is unfolded where it serves
-  serves-unfolded : {predicate : ℕ} → Serves rules rule predicate → unfolded (ruleAs (fixedIn given) rules rule .calls) (ruleAs (fixedIn given) rules rule .points-to) ≡ true
-  serves-unfolded s =
-      consumes-in (ruleAs (fixedIn given) rules rule .calls) (ruleAs (fixedIn given) rules rule .points-to)
-      (λ some none.
-      ⊎-elim (λ e. some (empty-long (ruleAs (fixedIn given) rules rule .calls) (calls-long ∙ e))) (λ l. absurd (omega (arith, atoms-long, long-empty (ruleAs (fixedIn given) rules rule .points-to) none)))
-      (s .unfolded))
-
-  -- a plain rule set has none that can be chosen and does not serve
-  pub not-served : (heap : List ℕ) {predicate : ℕ} (arguments : List ℕ) {mask : ℕ} → ¬ Serves rules rule predicate → NotChosen given rules heap predicate arguments mask (ruleAs (fixedIn given) rules rule)
-  not-served heap arguments n plain c =
-      n (record {
-        heads = sym (c .heads);
-        unfolded = by-cases (ℕ-discrete (callCount rules rule) 0) (λ e. inl e)
-            (λ z. by-cases (ℕ-discrete (atomCount rules rule) 0)
-            (λ e. absurd (plain .consuming (ruleAs (fixedIn given) rules rule) listed (λ q. z (sym calls-long ∙ long-empty (ruleAs (fixedIn given) rules rule .calls) q)) (empty-long (ruleAs (fixedIn given) rules rule .points-to) (atoms-long ∙ e))))
-            (λ e. inr (omega arith)));
-      })
+  -- a rule of another predicate cannot be chosen
+  pub not-served : (heap : List ℕ) {predicate : ℕ} (arguments : List ℕ) {mask : ℕ} → headIn rules rule ≢ predicate → NotChosen given rules heap predicate arguments mask (ruleAs (fixedIn given) rules rule)
+  not-served heap arguments n plain c = n (sym (c .heads))
 
 -- ---- the values of its variables are the first of eight
 
@@ -118,10 +72,10 @@ freely-as same t = record { indices = t .indices; takes = takes-as same (t .take
 
 -- ---- what trying it comes to
 
-module _ {given rules heap : List ℕ} (readable : Readable given rules heap) {rule : ℕ} (place : RulePlace given rules rule) {predicate : ℕ} (serves : Serves rules rule predicate)
+module _ {given rules heap : List ℕ} (readable : Readable given rules heap) {rule : ℕ} (place : RulePlace given rules rule) {predicate : ℕ} (serves : headIn rules rule ≡ predicate)
     {arguments : List ℕ} (whole : Counted arguments 0) {values : List ℕ} (found : FoundIn given rules rule heap arguments values) where
   head-same : arityIn rules predicate ≡ headArity rules rule
-  head-same = ap (arityIn rules) (sym (serves .heads))
+  head-same = ap (arityIn rules) (sym serves)
 
   found-for : AllFound (ruleSetRead given rules) (heapIn heap) (ruleAs (fixedIn given) rules rule) (argumentsIn rules predicate arguments) (knownIn values (variablesIn rules rule))
   found-for = rw head-same (found .is)
@@ -188,7 +142,7 @@ module _ {given rules heap : List ℕ} (readable : Readable given rules heap) {r
       place = place;
       all-known = known;
       chosen = subst (λ (σ : List ℕ). Chosen (ruleSetRead given rules) (heapIn heap) mask predicate (argumentsIn rules predicate arguments) (ruleAs (fixedIn given) rules rule) σ after) joined
-          (chosen-by bound (listed place) (serves-unfolded place serves) (sym (serves .heads)) counted bound-counted
+          (chosen-by bound (listed place) (sym serves) counted bound-counted
           (λ pure m. subst (λ (σ : List ℕ). Meets σ pure) (sym joined) (pures-met (readable .rules-read) place known met pure m))
           (subst (λ (σ : List ℕ). TakesFreely (heapIn heap) σ (ruleAs (fixedIn given) rules rule .points-to) mask after) (sym joined)
           (freely-as (λ atom m. sym (asks-same (readable .rules-read) place known atom m)) t)));

@@ -4,11 +4,12 @@ use mathlib.Core.{Option.Option, Option.some, Option.Option·none-ne-some, Optio
 use Prim.Native.Nat.{ℕ, _-_, _^_, _<_}
 use native.Mathlib.Omega.{arith}
 use lib.ListN.{length, getD, take}
-use Rattle.semantics.specs.{Lists._among_, Reader.accepted, Formats.ladder, Formats.WellFormedInput, Walk.Walks, Heap.wholeOf, WalkOutcome.WalkOutcome}
+use Rattle.semantics.specs.{Lists._among_, Reader.accepted, Refusals.notPlain, Walk.refusalWalkReply, Formats.ladder, Formats.WellFormedInput, Plain.Plain, Walk.Walks, Heap.wholeOf, WalkOutcome.WalkOutcome}
 use Rattle.semantics.proofs.{Coding.spot, FormatsFacts.ladder-values, WalkVerdict.Ends, WalkVerdict.outcome-walks}
 use Rattle.block.specs.Layout.{inputIn, ruleSetAs, ruleSetRead, fixedIn, constantsIn, heapIn, ruleSetSize, predicateCount, arityIn, recordCount, queryPredicate, queryValues}
 use Rattle.block.proofs.{HeapInBlock.heap-count, InputInBlock.valid, InputInBlock.constants-few, RuleAs.predicates-are, RuleAs.arity-is}
-use Rattle.walk.specs.Walk.{ConstantsFit, Readable, WalksFrom, argumentsIn, answer}
+use Rattle.plain.specs.Plain.{ConstantsFit, RulesReadable}
+use Rattle.walk.specs.Walk.{Readable, WalksFrom, argumentsIn, answer}
 
 below-all : (xs : List ℕ) → ((i : ℕ) → getD xs i 0 < 256) → (x : ℕ) → x among xs → x < 256
 below-all xs h x m = let (i, l, e) = spot 0 m in omega (arith, e, h i)
@@ -21,12 +22,16 @@ constants-fit book snapshot question rules heap query e b s q v m =
     ladder-values book snapshot question (below-all book b) (below-all snapshot s) (below-all question q) (inputIn rules heap query) e .0 v m
 
 module _ (rules heap query : List ℕ) (h : WellFormedInput (inputIn rules heap query)) where
+  pub rules-readable : ConstantsFit query → RulesReadable query rules
+  rules-readable fit = record { formed = valid rules heap query h .rules-formed; constants-few = constants-few rules heap query h; constants-fit = fit }
+
   pub readable : length rules ≡ ruleSetSize → ConstantsFit query → Readable query rules heap
-  readable long fit = record {
-    rules-long = long;
-    rules-read = record { formed = valid rules heap query h .rules-formed; constants-few = constants-few rules heap query h; constants-fit = fit };
-    heap-formed = valid rules heap query h .heap-formed;
-  }
+  readable long fit = record { rules-long = long; rules-read = rules-readable fit; heap-formed = valid rules heap query h .heap-formed }
+
+  -- a rule set that is not plain
+  pub refuses : ¬ Plain (ruleSetRead query rules) → Walks (inputIn rules heap query) (refusalWalkReply notPlain)
+  unfolding inputIn
+  refuses n = Walks.not-plain n refl
 
   pub named : queryPredicate query < predicateCount rules
   unfolding inputIn
@@ -36,7 +41,7 @@ module _ (rules heap query : List ℕ) (h : WellFormedInput (inputIn rules heap 
   unfolding inputIn
   counted = h .counted ∙ arity-is (fixedIn query) (constantsIn query) rules (queryPredicate query) named
 
-  module _ {arguments : List ℕ} (given : take (length (queryValues query)) arguments ≡ queryValues query) {p : ℕ} (is-predicate : p ≡ queryPredicate query)
+  module _ (plain : Plain (ruleSetRead query rules)) {arguments : List ℕ} (given : take (length (queryValues query)) arguments ≡ queryValues query) {p : ℕ} (is-predicate : p ≡ queryPredicate query)
       {ok : Bool} {mask fuel : ℕ} (walked : WalksFrom query rules heap fuel p arguments 0 ok mask) (enough : 16 < fuel) where
     top : WalkOutcome (ruleSetRead query rules) (heapIn heap) fuel (queryPredicate query) (queryValues query) 0 (answer ok mask)
     top =
@@ -45,7 +50,7 @@ module _ (rules heap query : List ℕ) (h : WellFormedInput (inputIn rules heap 
 
     ends : {verdict : ℕ} → Ends (heapIn heap) (answer ok mask) verdict → Walks (inputIn rules heap query) (record { refusal = 0; verdict = verdict })
     unfolding inputIn
-    ends e = outcome-walks (inputIn rules heap query) h fuel (omega (arith, h .valid .heap-formed .records-few)) top e
+    ends e = outcome-walks (inputIn rules heap query) h plain fuel (omega (arith, h .valid .heap-formed .records-few)) top e
 
     pub verdict-fits : ok ≡ true → mask ≡ 2 ^ recordCount heap - 1 → Walks (inputIn rules heap query) (record { refusal = 0; verdict = 1 })
     verdict-fits e m = ends (Ends.whole (ap (λ (b : Bool). answer b mask) e ∙ ap {B = Option ℕ} some (m ∙ ap (λ (n : ℕ). 2 ^ n - 1) (sym (heap-count heap)))) refl)

@@ -1,41 +1,20 @@
 -- The walk over the decoded blocks: what is asked of them, the choice of a rule, its calls, and what comes of a predicate.
-use mathlib.Core.{Bool.Bool, Bool.true, Bool.false, List.List, Logic._⊎_, Option.Option, Option.none, Option.some, Path._≡_}
-use Prim.Native.Nat.{ℕ, _≤_, _<_}
+use mathlib.Core.{Bool.Bool, Bool.true, Bool.false, List.List, Option.Option, Option.none, Option.some, Path._≡_}
+use Prim.Native.Nat.{ℕ}
 use lib.ListN.{length, take}
-use Rattle.semantics.specs.{Lists._among_, Heap.WellFormedHeap, RuleSet.Rule, RuleSet.WellFormed, RuleSet.WellFormedRule, Tree.valuesOf, Plain.Plain}
+use Rattle.semantics.specs.{Heap.WellFormedHeap, RuleSet.Rule, Tree.valuesOf, Plain.Plain}
 use Rattle.semantics.specs.WalkOutcome.{WalkOutcome, Chosen, Choosable}
-use Rattle.block.specs.Layout.{ruleAs, callAs, ruleSetRead, constantCount, fixedIn, constantsIn, heapIn, ruleCount, arityIn, rulePlace, headIn, atomCount, callCount, callPlace, callPredicate, ruleSetSize}
-use Rattle.block.specs.Ready.{variablesIn, FormedRead}
-use Rattle.finding.specs.Values.{openEntry, Counted}
+use Rattle.block.specs.Layout.{ruleAs, callAs, ruleSetRead, fixedIn, heapIn, arityIn, callPlace, callPredicate, ruleSetSize}
+use Rattle.block.specs.Ready.{variablesIn}
+use Rattle.finding.specs.Values.{Counted}
+use Rattle.plain.specs.Plain.{RulesReadable, RulePlace}
 use Rattle.walk.specs.declared.Choice.{Choice}
 
--- Every constant is below the bound of values.
-abbrev pub ConstantsFit : List ℕ → Type 0
-ConstantsFit given = (v : ℕ) → v among constantsIn given → v < openEntry
-
 -- The blocks hold a rule set that was read, with its constants; and a heap.
-pub record RulesReadable (given rules : List ℕ) : Type 0 where
-  pub formed : WellFormed (ruleSetRead given rules)
-  pub constants-few : constantCount given ≤ 8
-  pub constants-fit : ConstantsFit given
-
 pub record Readable (given rules heap : List ℕ) : Type 0 where
   pub rules-long : length rules ≡ ruleSetSize
   pub rules-read : RulesReadable given rules
   pub heap-formed : WellFormedHeap (heapIn heap)
-
--- The place of a rule of the block.
-pub record RulePlace (given rules : List ℕ) (rule : ℕ) : Type 0 where
-  pub number : ℕ
-  pub below : number < ruleCount rules
-  pub is-place : rule ≡ rulePlace number
-  pub well : WellFormedRule (ruleSetRead given rules) (ruleAs (fixedIn given) rules rule)
-  pub formed : FormedRead given rules rule
-
--- The rule is for the predicate; and if it has calls, it has a points-to atom.
-pub record Serves (rules : List ℕ) (rule predicate : ℕ) : Type 0 where
-  pub heads : headIn rules rule ≡ predicate
-  pub unfolded : (callCount rules rule ≡ 0) ⊎ (0 < atomCount rules rule)
 
 -- The first entries of an array are the arguments of a predicate, as many as it has.
 abbrev pub argumentsIn : List ℕ → ℕ → List ℕ → List ℕ

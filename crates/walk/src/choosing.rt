@@ -6,34 +6,17 @@ use super::taking::take;
 use block::HeapBlock;
 use block::QueryBlock;
 use block::RuleBlock;
-use block::atom_count;
-use block::call_count;
 use block::head;
 use block::rule_count;
 use block::rule_place;
 use finding::find;
 use finding::values::Values;
 use words::wide;
-ghost use mathlib.Core.Bool.{Bool};
 ghost use Prim.Native.Nat.{_<_};
-ghost use Rattle.words.specs.Told.{Told};
 ghost use Rattle.block.specs.Layout.{predicateCount};
-ghost use Rattle.finding.specs.Values.{Counted, Shaped};
-ghost use Rattle.walk.specs.Walk.{Readable, RulePlace, Serves, Attempts, Chooses};
-
-// Whether a rule is for a predicate, and may be unfolded: with calls, it has a points-to atom.
-fn serves(rules: &RuleBlock, rule: usize, predicate: usize) -> bool
-    requires { ⌜ Shaped (now rules) rule ⌝ }
-    ensures { λ (r : Bool). ⌜ Told r (Serves (now (rules .entry)) rule predicate) ⌝ }
-{
-    if wide(head(rules, rule)) != predicate {
-        return false;
-    }
-    if call_count(rules, rule) == 0 {
-        return true;
-    }
-    atom_count(rules, rule) != 0
-}
+ghost use Rattle.finding.specs.Values.{Counted};
+ghost use Rattle.plain.specs.Plain.{RulePlace};
+ghost use Rattle.walk.specs.Walk.{Readable, Attempts, Chooses};
 
 // Tries a rule: its values found, its pure conditions met, its records free.
 fn attempt(
@@ -49,7 +32,7 @@ fn attempt(
     requires { ⌜ Readable (now given) (now rules) (now heap) × RulePlace (now given) (now rules) rule × Counted (now arguments) 0 ⌝ }
     ensures { λ r. ⌜ Attempts (now (given .entry)) (now (rules .entry)) rule (now (heap .entry)) predicate (now (arguments .entry)) mask (now (values .exit)) (r .ok) (r .mask) ⌝ }
 {
-    if serves(rules, rule, predicate) {
+    if wide(head(rules, rule)) == predicate {
         *values = *arguments;
         if find(rules, rule, heap, values, given) == 0 {
             if pures_hold(rules, rule, values, given) {

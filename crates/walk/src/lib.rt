@@ -1,5 +1,6 @@
-// The quick walk: refusals 1 to 9, then the verdict alone, by unfolding from the question downward. It needs no table and no domain, and
-// nothing that is lent is changed. The first rule that can be unfolded is taken and never taken back: in a plain rule set it is the only one.
+// The quick walk: refusals 1 to 9, then 12 if the rule set is not plain, and else the verdict, by unfolding from the question downward. It
+// needs no table and no domain, and nothing that is lent is changed. The first rule that can be unfolded is taken and never taken back: in a
+// plain rule set it is the only one.
 mod choosing;
 mod taking;
 mod unfolding;
@@ -16,6 +17,8 @@ use block::heap::record_count;
 use finding::records::long;
 use finding::values::Values;
 use formats::Ladder;
+use plain::plain;
+use semantics::NOT_PLAIN;
 use semantics::WalkReply;
 use unfolding::descend;
 use words::wide;
@@ -24,11 +27,12 @@ ghost use mathlib.Core.Path.{_≡_};
 ghost use Prim.Native.Nat.{_-_, _^_, _≤_};
 ghost use lib.ListN.{length, take};
 ghost use Rattle.semantics.specs.Formats.{WellFormedInput};
+ghost use Rattle.semantics.specs.Plain.{Plain};
 ghost use Rattle.semantics.specs.Walk.{Walks, Walked};
 ghost use Rattle.words.specs.Told.{Told};
-ghost use Rattle.block.specs.Layout.{inputIn, ruleSetSize};
+ghost use Rattle.block.specs.Layout.{inputIn, ruleSetRead, ruleSetSize};
 ghost use Rattle.finding.specs.Values.{Counted};
-ghost use Rattle.walk.specs.Walk.{ConstantsFit};
+ghost use Rattle.plain.specs.Plain.{ConstantsFit};
 
 // Whether what was asked for could be had with free records alone, and the mask of all records taken then.
 pub struct Taken {
@@ -69,9 +73,9 @@ fn all_taken(records: usize, mask: u16) -> bool
     mask as u32 + 1 == one << records
 }
 
-// The verdict: whether the query unfolds to a tree that takes every record.
+// The verdict for a plain rule set: whether the query unfolds to a tree that takes every record.
 fn verdict(rules: &RuleBlock, heap: &HeapBlock, query: &QueryBlock) -> u64
-    requires { ⌜ WellFormedInput (inputIn (now rules) (now heap) (now query)) × (length (now rules) ≡ ruleSetSize) × ConstantsFit (now query) ⌝ }
+    requires { ⌜ WellFormedInput (inputIn (now rules) (now heap) (now query)) × (length (now rules) ≡ ruleSetSize) × ConstantsFit (now query) × Plain (ruleSetRead (now query) (now rules)) ⌝ }
     ensures { λ r. ⌜ Walks (inputIn (now (rules .entry)) (now (heap .entry)) (now (query .entry))) (record { refusal = 0; verdict = r }) ⌝ }
 {
     let arguments = arguments_of(query_values(query));
@@ -85,7 +89,24 @@ fn verdict(rules: &RuleBlock, heap: &HeapBlock, query: &QueryBlock) -> u64
     0
 }
 
-// The walk: what the reader refuses, or the verdict.
+// The answer to what was read: a rule set that is not plain is refused, and for a plain one there is a verdict.
+fn respond(rules: &RuleBlock, heap: &HeapBlock, query: &QueryBlock) -> WalkReply
+    requires { ⌜ WellFormedInput (inputIn (now rules) (now heap) (now query)) × (length (now rules) ≡ ruleSetSize) × ConstantsFit (now query) ⌝ }
+    ensures { λ r. ⌜ Walks (inputIn (now (rules .entry)) (now (heap .entry)) (now (query .entry))) r ⌝ }
+{
+    if plain(rules, query) {
+        return WalkReply {
+            refusal: 0,
+            verdict: verdict(rules, heap, query),
+        };
+    }
+    WalkReply {
+        refusal: NOT_PLAIN,
+        verdict: 0,
+    }
+}
+
+// The walk: what the reader refuses, or the answer.
 pub fn walk(book: &[u8], snapshot: &[u8], question: &[u8]) -> WalkReply
     ensures { λ r. ⌜ Walked (now (book .entry)) (now (snapshot .entry)) (now (question .entry)) r ⌝ }
 {
@@ -97,9 +118,6 @@ pub fn walk(book: &[u8], snapshot: &[u8], question: &[u8]) -> WalkReply
             refusal: n as u64,
             verdict: 0,
         },
-        Ladder::Accepted => WalkReply {
-            refusal: 0,
-            verdict: verdict(&rules, &heap, &query),
-        },
+        Ladder::Accepted => respond(&rules, &heap, &query),
     }
 }

@@ -15,7 +15,8 @@ use words::wide;
 ghost use Prim.Native.Nat.{_<_};
 ghost use Rattle.block.specs.Layout.{predicateCount, callCount};
 ghost use Rattle.finding.specs.Values.{Counted};
-ghost use Rattle.walk.specs.Walk.{RulesReadable, Readable, RulePlace, CallsWith, WalksFrom};
+ghost use Rattle.plain.specs.Plain.{RulesReadable, RulePlace};
+ghost use Rattle.walk.specs.Walk.{Readable, CallsWith, WalksFrom};
 
 // The arguments of call c of a rule whose variables have these values; entries past the last are 0.
 fn call_arguments(

@@ -1,6 +1,8 @@
 //! Bytes for the tests.
 #![allow(dead_code)]
 
+pub mod near;
+
 use reference::api::HOUSE;
 use reference::formats::{self, Kind, Problem, Rule, RuleSet, Term};
 use reference::tree::Tree;
@@ -128,36 +130,7 @@ pub fn book_with(arities: &[u8], constants: &[u32], rules: &[Vec<u8>]) -> Vec<u8
 
 /// A rule set's bytes; of equal constants, rules name the first one.
 pub fn written(rules: &RuleSet) -> Vec<u8> {
-    let term = |term: &Term| match term {
-        Term::Nil => NIL,
-        Term::Constant(value) => {
-            let place = rules.constants.iter().position(|other| other == value);
-            C + place.expect("constant is listed") as u8
-        }
-        Term::Variable(variable) => *variable as u8,
-    };
-    let arities: Vec<u8> = rules.arities.iter().map(|&arity| arity as u8).collect();
-    let mut bytes = book_with(&arities, &rules.constants, &[]);
-    *bytes.last_mut().unwrap() = rules.rules.len() as u8;
-    for rule in &rules.rules {
-        let bound = rule.variables - rules.arities[rule.head];
-        bytes.extend([rule.head as u8, bound as u8, rule.pure.len() as u8]);
-        for pure in &rule.pure {
-            let kind = (pure.kind == Kind::Unequal) as u8;
-            bytes.extend([kind, term(&pure.left), term(&pure.right)]);
-        }
-        bytes.push(rule.cells.len() as u8);
-        for cell in &rule.cells {
-            bytes.extend([cell.address as u8, cell.fields.len() as u8]);
-            bytes.extend(cell.fields.iter().map(term));
-        }
-        bytes.push(rule.calls.len() as u8);
-        for call in &rule.calls {
-            bytes.push(call.predicate as u8);
-            bytes.extend(call.arguments.iter().map(term));
-        }
-    }
-    bytes
+    near::Draft::of(rules).bytes()
 }
 
 /// The book without its rules that have calls but no cell.
@@ -360,6 +333,53 @@ pub fn typed_books() -> Vec<Vec<u8>> {
     );
     let mut books = plain_typed_books();
     books.extend([mixed, others]);
+    books
+}
+
+/// That many rules of one predicate, eight variables, eight conditions and eight
+/// constants, made so that a search through numbers ends late or never.
+pub fn hostile_books(count: usize) -> Vec<Vec<u8>> {
+    let constants = [1, 2, 3, 4, 5, 6, 7, 8];
+    let mut books = Vec::new();
+    for arity in 0..=4u8 {
+        let bound = 8 - arity;
+        let mut sets: Vec<Vec<[u8; 3]>> = Vec::new();
+        // The last variable is no constant but one, and is another one.
+        let mut none: Vec<[u8; 3]> = (0..7).map(|index| [UNEQUAL, 7, C + index]).collect();
+        none.push([EQUAL, 7, C]);
+        sets.push(none);
+        // A contradiction between the last variables.
+        sets.push(vec![[EQUAL, 6, 7], [UNEQUAL, 7, 6]]);
+        sets.push(vec![[UNEQUAL, 7, 7]]);
+        sets.push(vec![[EQUAL, C, D]]);
+        // A chain through all variables with a constant at either end.
+        let mut chain: Vec<[u8; 3]> = (0..7).map(|index| [EQUAL, index, index + 1]).collect();
+        chain.push([UNEQUAL, 0, 7]);
+        sets.push(chain.clone());
+        chain[7] = [EQUAL, 7, C];
+        sets.push(chain);
+        // All variables unequal in a ring, and pairs with constants.
+        sets.push(
+            (0..8)
+                .map(|index| [UNEQUAL, index, (index + 1) % 8])
+                .collect(),
+        );
+        sets.push((0..8).map(|index| [UNEQUAL, index, C + index]).collect());
+        sets.push((0..8).map(|index| [EQUAL, 7 - index, C + index]).collect());
+        sets.push(vec![]);
+        for first in &sets {
+            for second in &sets {
+                let rules: Vec<Vec<u8>> = (0..count)
+                    .map(|number| {
+                        let pure = if number % 2 == 0 { first } else { second };
+                        rule(0, bound, pure, &[], &[])
+                    })
+                    .collect();
+                books.push(book_with(&[arity], &constants, &rules));
+                books.push(book_with(&[arity], &[9; 8], &rules));
+            }
+        }
+    }
     books
 }
 

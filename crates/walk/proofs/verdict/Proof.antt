@@ -48,7 +48,7 @@ returns c =
     let a : tie.After-arguments-of = w .before .before in
     let s : tie.Start = a .before .before in
     let g = s .args in
-    verdict-fits (g .rules .now) (g .heap .now) (g .query .now) (s .pre .0) (rw (a .before .query-values .ensures) at (a .arguments-of .ensures .0))
+    verdict-fits (g .rules .now) (g .heap .now) (g .query .now) (s .pre .0) (s .pre .3) (rw (a .before .query-values .ensures) at (a .arguments-of .ensures .0))
     (w .wide .ensures .0 ∙ w .before .query-predicate .ensures) (d .descend .ensures) (omega arith) (c .before .before .before .if1 .taken)
     (rw (c .before .before .record-count .ensures .0) at (c .before .all-taken .ensures) .so (c .if2 .taken))
 
@@ -59,7 +59,7 @@ returns-2 c =
     let a : tie.After-arguments-of = w .before .before in
     let s : tie.Start = a .before .before in
     let g = s .args in
-    verdict-part (g .rules .now) (g .heap .now) (g .query .now) (s .pre .0) (rw (a .before .query-values .ensures) at (a .arguments-of .ensures .0))
+    verdict-part (g .rules .now) (g .heap .now) (g .query .now) (s .pre .0) (s .pre .3) (rw (a .before .query-values .ensures) at (a .arguments-of .ensures .0))
     (w .wide .ensures .0 ∙ w .before .query-predicate .ensures) (d .descend .ensures) (omega arith) (c .before .before .before .if1 .taken)
     (rw (c .before .before .record-count .ensures .0) at (c .before .all-taken .ensures) .not-so (c .if2 .left))
 
@@ -70,7 +70,7 @@ returns-3 c =
     let a : tie.After-arguments-of = w .before .before in
     let s : tie.Start = a .before .before in
     let g = s .args in
-    verdict-none (g .rules .now) (g .heap .now) (g .query .now) (s .pre .0) (rw (a .before .query-values .ensures) at (a .arguments-of .ensures .0))
+    verdict-none (g .rules .now) (g .heap .now) (g .query .now) (s .pre .0) (s .pre .3) (rw (a .before .query-values .ensures) at (a .arguments-of .ensures .0))
     (w .wide .ensures .0 ∙ w .before .query-predicate .ensures) (d .descend .ensures) (omega arith) (c .if1 .left)
 
 pub verdict-spec : {M : Type 1} → statement M

@@ -1,4 +1,4 @@
--- `walk` meets its contract: what the reader refuses is refused, and of what it accepts `verdict` decides.
+-- `walk` meets its contract: what the reader refuses is refused, and what it accepts `respond` answers.
 use borrow.Author.Needs.{needs}
 use mathlib.Core.Path.{refl}
 use native.Mathlib.Omega.{arith}
@@ -7,8 +7,8 @@ use Rattle.walk.proofs.Verdicts.{constants-fit}
 use Rattle.walk.proofs.walk.Statement.{statement}
 use Rattle.walk.proofs.walk.Tie as tie
 
-verdict-requires : tie.Need-verdict-requires
-verdict-requires c κs =
+respond-requires : tie.Need-respond-requires
+respond-requires c κs =
     let a : tie.After-enum-told = c .before .before .before in
     let read = a .before .before .read .ensures in
     let question = a .before .before .before .before .before .before in (
@@ -24,9 +24,9 @@ returns c = unread (c .before .before .before .read .ensures) (c .before .n .giv
 returns-2 : tie.Need-returns-2
 returns-2 c =
     let a : tie.After-enum-told = c .before .before .before .before in
-    answered (a .before .before .read .ensures) (a .enum-told .given .1) tt (c .verdict .ensures)
+    answered (a .before .before .read .ensures) (a .enum-told .given .1) tt (c .respond .ensures)
 
 pub walk-spec : {M : Type 1} → statement M
 walk-spec =
     tie.close
-    (tie.spec (λ c κs. search needs) (λ c. search needs) (λ c. search needs) (λ c. search needs) verdict-requires returns returns-2)
+    (tie.spec (λ c κs. search needs) (λ c. search needs) (λ c. search needs) (λ c. search needs) respond-requires returns returns-2)

@@ -7,7 +7,8 @@ use Rattle.block.specs.Layout.{ruleAs, fixedIn, constantsIn, rulePlace}
 use Rattle.block.proofs.RuleAs.{rule-number}
 use Rattle.walk.specs.Walk.{NotChosen}
 use Rattle.walk.specs.Walk.Chooses.{chosen, nothing}
-use Rattle.walk.proofs.Trying.{place-of, attempt-chosen, attempt-nothing}
+use Rattle.plain.proofs.Places.{place-of}
+use Rattle.walk.proofs.Trying.{attempt-chosen, attempt-nothing}
 use Rattle.walk.proofs.choosing.choose.Statement.{statement}
 use Rattle.walk.proofs.choosing.choose.Tie as tie
 
@@ -23,7 +24,7 @@ attempt-requires c κs =
     let l : tie.At-loop Inv-loop μ-loop = c .before .before .before in
     let s = l .before .before in
     let g = s .args in
-    (s .pre .0, rw (c .before .rule-place .ensures) (place-of (g .given .now) (g .rules .now) (g .heap .now) (s .pre .0) (l .loop .r) (omega (arith, l .before .rule-count .ensures .0))), s .pre .2)
+    (s .pre .0, rw (c .before .rule-place .ensures) (place-of (s .pre .0 .rules-read) (l .loop .r) (omega (arith, l .before .rule-count .ensures .0))), s .pre .2)
 
 returns : tie.Need-returns Inv-loop μ-loop
 returns c = chosen refl (attempt-chosen (c .before .attempt .ensures) (c .if1 .taken))

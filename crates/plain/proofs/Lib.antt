@@ -1,0 +1,11 @@
+pub mod Merging
+pub mod Stores
+pub mod Seats
+pub mod Conditions
+pub mod Sides
+pub mod Overlapping
+pub mod Places
+pub mod Exclusion
+pub mod Links
+pub mod FixedTerms
+pub mod Conclusion
