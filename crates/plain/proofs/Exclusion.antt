@@ -1,6 +1,6 @@
 -- Two rules of one predicate exclude each other exactly if they do not overlap: arguments that both allow, with the bound values of each, are
 -- values of all variables together, and the other way round.
-use mathlib.Core.{Bool.true, Bool.false, Path._≡_, Path.refl, Path.sym, Path.ap, Path._∙_, List.List, List._++_}
+use mathlib.Core.{Bool.Bool, Bool.true, Bool.false, Bool.false≢true, Path._≡_, Path.refl, Path.sym, Path.ap, Path._∙_, Logic.⊎-elim, List.List, List._++_}
 use Prim.Native.Nat.{ℕ, _+_, _-_, _≤_, _<_}
 use native.Mathlib.{Omega.arith, Decide.decLt}
 use borrow.Author.Tests.{lt-ltb, le-ltb}
@@ -8,12 +8,13 @@ use lib.{ListN.length, ListN.getD, ListN.List·getD-append, Dec.ltb}
 use Rattle.semantics.specs.{RuleSet.arity, Plain.Allows, Plain.Exclude}
 use Rattle.words.specs.Entries.{tabulate}
 use Rattle.words.proofs.Tabulate.{tabulate-length, tabulate-at, tabulate-same, tabulate-add}
-use Rattle.block.specs.Layout.{ruleAs, ruleSetRead, fixedIn, constantsIn, headIn, boundIn, headArity, pureCount}
+use Rattle.block.specs.Layout.{ruleAs, ruleSetRead, fixedIn, constantsIn, headIn, boundIn, headArity, pureCount, pureLeft, pureRight}
 use Rattle.block.specs.Ready.{FormedRule, variablesIn}
 use Rattle.block.proofs.RuleAs.{head-arity-is}
-use Rattle.plain.specs.Classes.{seat, EqualsMet, SideMet, Overlaps}
+use Rattle.plain.specs.Classes.{seat, entryBy, EqualsMet, SideMet, Overlaps}
+use Rattle.plain.specs.Opposed.{Shared, Opposed, Parted}
 use Rattle.plain.specs.Plain.{RulesReadable, RulePlace}
-use Rattle.plain.proofs.{Seats.seat-shared, Seats.seat-own, Sides.Seated, Sides.side-met, Sides.met-side}
+use Rattle.plain.proofs.{Seats.seat-shared, Seats.seat-own, Seats.entry-shared, Seats.entry-fixed, Sides.Seated, Sides.side-met, Sides.met-side}
 
 -- ---- one rule
 
@@ -85,6 +86,28 @@ module _ (value : ℕ → ℕ) {Fixed : ℕ → Type 0} (rules : List ℕ) (at o
       second = side-met value rules other (headArity rules at) o (besides (arguments ++ a .bound) (arguments ++ b .bound)) (arguments ++ b .bound) second-seated (b .meets);
     }
 
+-- ---- first conditions
+
+-- a shared term has one value in both rules
+one-value : (value σ : ℕ → ℕ) (arity t : ℕ) → arity ≤ 4 → Shared arity t → entryBy value 8 σ t ≡ entryBy value arity σ t
+one-value value σ arity t few =
+    ⊎-elim (λ l. sym (entry-shared value 8 σ t (omega arith) (omega arith)) ∙ entry-shared value arity σ t (omega arith) l)
+    (λ g. sym (entry-fixed value 8 σ t g) ∙ entry-fixed value arity σ t g)
+
+opposed-apart : (value : ℕ → ℕ) (rules : List ℕ) (at other : ℕ) → headArity rules at ≤ 4 → Opposed rules at other → ¬ Overlaps value rules at other
+opposed-apart value rules at other few o w =
+    ⊎-elim (λ k. w .second .unequals 0 (o .some-other) (k .1) (sym left ∙ w .first .equals 0 (o .some) (k .0) ∙ right))
+    (λ k. w .first .unequals 0 (o .some) (k .0) (left ∙ w .second .equals 0 (o .some-other) (k .1) ∙ sym right)) (o .kinds)
+  where
+    side : ℕ → ℕ
+    side t = entryBy value (headArity rules at) (w .σ) t
+
+    left : entryBy value 8 (w .σ) (pureLeft rules at 0) ≡ side (pureLeft rules other 0)
+    left = one-value value (w .σ) (headArity rules at) (pureLeft rules at 0) few (o .left-shared) ∙ ap side (o .left)
+
+    right : entryBy value 8 (w .σ) (pureRight rules at 0) ≡ side (pureRight rules other 0)
+    right = one-value value (w .σ) (headArity rules at) (pureRight rules at 0) few (o .right-shared) ∙ ap side (o .right)
+
 -- ---- exclusion
 
 module _ {given rules : List ℕ} (read : RulesReadable given rules) {at other : ℕ} (p : RulePlace given rules at) (q : RulePlace given rules other) where
@@ -112,3 +135,14 @@ module _ {given rules : List ℕ} (read : RulesReadable given rules) {at other :
   pub unmet-excluded : ((σ : ℕ → ℕ) → ¬ EqualsMet (fixedIn given) rules at 8 (pureCount rules at) σ) → Excluded
   unmet-excluded never same arguments counted a b =
       never (besides (arguments ++ a .bound) arguments) (first-met (fixedIn given) rules at (p .formed) arguments (counted ∙ arity-of) a arguments .equals)
+
+  -- rules that are told apart at a glance, and others
+  pub parted-excluded : {told : Bool} → Parted rules at other told → told ≡ true → Excluded
+  parted-excluded (Parted.heads t n) e = λ same. absurd (n same)
+  parted-excluded (Parted.opposed t o) e = excluded (opposed-apart (fixedIn given) rules at other (p .formed .ready .head-arity) o)
+  parted-excluded (Parted.unknown f same) e = absurd (false≢true (sym f ∙ e))
+
+  pub not-parted : {told : Bool} → Parted rules at other told → told ≡ false → headIn rules at ≡ headIn rules other
+  not-parted (Parted.heads t n) e = absurd (false≢true (sym e ∙ t))
+  not-parted (Parted.opposed t o) e = absurd (false≢true (sym e ∙ t))
+  not-parted (Parted.unknown f same) e = same

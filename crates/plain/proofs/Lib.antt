@@ -6,6 +6,7 @@ pub mod Sides
 pub mod Overlapping
 pub mod Places
 pub mod Exclusion
+pub mod Passing
 pub mod Links
 pub mod FixedTerms
 pub mod Conclusion

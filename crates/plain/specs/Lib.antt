@@ -1,3 +1,4 @@
 pub mod Plain
 pub mod Classes
 pub mod Fixing
+pub mod Opposed

@@ -31,6 +31,10 @@ pub record RulePlace (given rules : List ℕ) (rule : ℕ) : Type 0 where
 abbrev pub ConsumesIn : List ℕ → ℕ → Type 0
 ConsumesIn rules at = callCount rules at ≢ 0 → atomCount rules at ≢ 0
 
+-- A rule and each from a number on exclude each other.
+abbrev pub ExcludesFrom : RuleSet → ℕ → ℕ → Type 0
+ExcludesFrom ruleSet i n = (j : ℕ) → n ≤ j → j < length (ruleSet .rules) → Exclude ruleSet (ruleOf ruleSet i) (ruleOf ruleSet j)
+
 -- A rule and each later one exclude each other.
 abbrev pub ExcludesLater : RuleSet → ℕ → Type 0
 ExcludesLater ruleSet i = (j : ℕ) → i < j → j < length (ruleSet .rules) → Exclude ruleSet (ruleOf ruleSet i) (ruleOf ruleSet j)

@@ -9,18 +9,80 @@ use block::QueryBlock;
 use block::RuleBlock;
 use block::head;
 use block::head_arity;
+use block::pure_count;
+use block::pure_kind;
+use block::pure_left;
+use block::pure_right;
 use block::rule_count;
 use block::rule_place;
-ghost use mathlib.Core.Bool.{Bool};
+use words::wide;
+ghost use mathlib.Core.Bool.{Bool, true};
 ghost use mathlib.Core.Path.{_≡_};
-ghost use Prim.Native.Nat.{_≤_, _<_};
+ghost use Prim.Native.Nat.{_+_, _≤_, _<_};
 ghost use lib.ListN.{length};
 ghost use Rattle.semantics.specs.Plain.{Exclude};
 ghost use Rattle.words.specs.Told.{Told};
-ghost use Rattle.block.specs.Layout.{constantCount, ruleAs, ruleSetRead, fixedIn, ruleCount};
+ghost use Rattle.block.specs.Layout.{constantCount, ruleAs, ruleSetRead, fixedIn, ruleCount, ruleSetSize, ruleSize};
 ghost use Rattle.block.specs.Ready.{FormedRead};
 ghost use Rattle.plain.specs.Classes.{ClassesOf, Overlaps};
-ghost use Rattle.plain.specs.Plain.{RulesReadable, RulePlace, ExcludesLater};
+ghost use Rattle.plain.specs.Opposed.{Shared, KindsDiffer, Opposed, Parted};
+ghost use Rattle.plain.specs.Plain.{RulesReadable, RulePlace, ExcludesFrom, ExcludesLater};
+
+// Whether a term is one of so many arguments, or a fixed value: in two rules with one head it is the same.
+fn shared(term: u8, arity: usize) -> bool
+    ensures { λ (r : Bool). ⌜ Told r (Shared arity term) ⌝ }
+{
+    if 128 <= term {
+        return true;
+    }
+    wide(term) < arity
+}
+
+// Whether only one of the first conditions of two rules is an equality.
+fn kinds_differ(rules: &RuleBlock, rule: usize, other: usize) -> bool
+    requires { ⌜ (rule + ruleSize ≤ ruleSetSize) × (other + ruleSize ≤ ruleSetSize) ⌝ }
+    ensures { λ (r : Bool). ⌜ (r ≡ true → KindsDiffer (now (rules .entry)) rule other) ⌝ }
+{
+    if pure_kind(rules, rule, 0) == 0 {
+        return pure_kind(rules, other, 0) != 0;
+    }
+    pure_kind(rules, other, 0) == 0
+}
+
+// Whether the first conditions of two rules have the same terms, arguments or fixed values, and only one is an equality.
+fn opposed(rules: &RuleBlock, rule: usize, other: usize) -> bool
+    requires { ⌜ (rule + ruleSize ≤ ruleSetSize) × (other + ruleSize ≤ ruleSetSize) ⌝ }
+    ensures { λ (r : Bool). ⌜ (r ≡ true → Opposed (now (rules .entry)) rule other) ⌝ }
+{
+    let arity = head_arity(rules, rule);
+    let left = pure_left(rules, rule, 0);
+    let right = pure_right(rules, rule, 0);
+    if pure_count(rules, rule) != 0 {
+        if pure_count(rules, other) != 0 {
+            if left == pure_left(rules, other, 0) {
+                if right == pure_right(rules, other, 0) {
+                    if shared(left, arity) {
+                        if shared(right, arity) {
+                            return kinds_differ(rules, rule, other);
+                        }
+                    }
+                }
+            }
+        }
+    }
+    false
+}
+
+// Whether two rules are told apart at a glance: by their predicates, or by their first conditions, as most books do it.
+fn parted(rules: &RuleBlock, rule: usize, other: usize) -> bool
+    requires { ⌜ (rule + ruleSize ≤ ruleSetSize) × (other + ruleSize ≤ ruleSetSize) ⌝ }
+    ensures { λ (r : Bool). ⌜ Parted (now (rules .entry)) rule other r ⌝ }
+{
+    if head(rules, rule) == head(rules, other) {
+        return opposed(rules, rule, other);
+    }
+    true
+}
 
 // Whether some values meet the conditions of both rules; the classes are those of the first rule.
 fn overlap(
@@ -54,30 +116,49 @@ fn excludes(
     requires { ⌜ RulesReadable (now given) (now rules) × RulePlace (now given) (now rules) rule × RulePlace (now given) (now rules) other × ClassesOf (fixedIn (now given)) (now rules) rule (now classes) × (length (now classes) ≡ 16) ⌝ }
     ensures { λ (r : Bool). ⌜ Told r (Exclude (ruleSetRead (now (given .entry)) (now (rules .entry))) (ruleAs (fixedIn (now (given .entry))) (now (rules .entry)) rule) (ruleAs (fixedIn (now (given .entry))) (now (rules .entry)) other)) ⌝ }
 {
-    if head(rules, rule) == head(rules, other) {
-        if overlap(rules, rule, other, classes, given) {
-            return false;
-        }
+    if parted(rules, rule, other) {
+        return true;
+    }
+    if overlap(rules, rule, other, classes, given) {
+        return false;
     }
     true
 }
 
-// Whether rule r and each later rule exclude each other.
-pub fn excludes_later(rules: &RuleBlock, r: usize, given: &QueryBlock) -> bool
-    requires { ⌜ RulesReadable (now given) (now rules) × (r < ruleCount (now rules)) ⌝ }
-    ensures { λ (told : Bool). ⌜ Told told (ExcludesLater (ruleSetRead (now (given .entry)) (now (rules .entry))) r) ⌝ }
+// Whether rule r and each rule from the first on exclude each other.
+fn excludes_from(rules: &RuleBlock, r: usize, first: usize, given: &QueryBlock) -> bool
+    requires { ⌜ RulesReadable (now given) (now rules) × (r < ruleCount (now rules)) × (first ≤ ruleCount (now rules)) ⌝ }
+    ensures { λ (told : Bool). ⌜ Told told (ExcludesFrom (ruleSetRead (now (given .entry)) (now (rules .entry))) r first) ⌝ }
 {
     let count = rule_count(rules);
     let rule = rule_place(r);
     let mut classes = fresh();
     if merge(rules, rule, ALL, &mut classes, given) {
-        let mut other = r + 1;
+        let mut other = first;
         while other < count {
             if excludes(rules, rule, rule_place(other), &classes, given) {
                 other += 1;
             } else {
                 return false;
             }
+        }
+    }
+    true
+}
+
+// Whether rule r and each later rule exclude each other. Classes are made only if some rules are not told apart at a glance.
+pub fn excludes_later(rules: &RuleBlock, r: usize, given: &QueryBlock) -> bool
+    requires { ⌜ RulesReadable (now given) (now rules) × (r < ruleCount (now rules)) ⌝ }
+    ensures { λ (told : Bool). ⌜ Told told (ExcludesLater (ruleSetRead (now (given .entry)) (now (rules .entry))) r) ⌝ }
+{
+    let count = rule_count(rules);
+    let rule = rule_place(r);
+    let mut other = r + 1;
+    while other < count {
+        if parted(rules, rule, rule_place(other)) {
+            other += 1;
+        } else {
+            return excludes_from(rules, r, other, given);
         }
     }
     true

@@ -1,0 +1,28 @@
+-- Rules that are told apart at a glance, before any classes are made.
+use mathlib.Core.{Bool.Bool, Bool.true, Bool.false, List.List, Path._≡_, Logic._≢_, Logic._⊎_}
+use Prim.Native.Nat.{ℕ, _≤_, _<_}
+use Rattle.block.specs.Layout.{headIn, headArity, pureCount, pureKind, pureLeft, pureRight}
+
+-- The byte names one of so many arguments or a fixed value.
+abbrev pub Shared : ℕ → ℕ → Type 0
+Shared arity t = (t < arity) ⊎ (128 ≤ t)
+
+-- Only one of the first conditions of two rules is an equality.
+abbrev pub KindsDiffer : List ℕ → ℕ → ℕ → Type 0
+KindsDiffer rules at other = ((pureKind rules at 0 ≡ 0) × (pureKind rules other 0 ≢ 0)) ⊎ ((pureKind rules at 0 ≢ 0) × (pureKind rules other 0 ≡ 0))
+
+-- The first conditions of two rules have the same terms, which both rules share, and only one of them is an equality.
+pub record Opposed (rules : List ℕ) (at other : ℕ) : Type 0 where
+  pub some : 0 < pureCount rules at
+  pub some-other : 0 < pureCount rules other
+  pub left : pureLeft rules at 0 ≡ pureLeft rules other 0
+  pub right : pureRight rules at 0 ≡ pureRight rules other 0
+  pub left-shared : Shared (headArity rules at) (pureLeft rules at 0)
+  pub right-shared : Shared (headArity rules at) (pureRight rules at 0)
+  pub kinds : KindsDiffer rules at other
+
+-- What a glance tells of two rules.
+pub data Parted (rules : List ℕ) (at other : ℕ) (told : Bool) : Type 0 where
+  heads : told ≡ true → headIn rules at ≢ headIn rules other → Parted rules at other told
+  opposed : told ≡ true → Opposed rules at other → Parted rules at other told
+  unknown : told ≡ false → headIn rules at ≡ headIn rules other → Parted rules at other told
