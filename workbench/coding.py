@@ -9,7 +9,7 @@ from workbench.pool_bytes import encode_pool, explain_pool
 from workbench.pool_text import write_pool
 from workbench.question_bytes import encode_question, explain_question
 from workbench.question_text import parse_question, write_question
-from workbench.sources import HOUSE, is_text, read_book, read_bytes, read_pool, source_name
+from workbench.sources import HOUSE, is_text, read_book, read_bytes, read_pool, refuse_base_sixteen, source_name
 
 BYTES_IN_A_ROW = 16
 
@@ -45,6 +45,7 @@ def encode_bench_files(book_path: str, pool_path: str, text: str, nil: int = 0) 
 
 def _bytes_of(path: str) -> bytes:
     data = read_bytes(path)
+    refuse_base_sixteen(data, source_name(path))
     if data and is_text(data):
         raise Mistake("this is text already: decode takes bytes, such as encode writes", source_name(path))
     return data

@@ -1,7 +1,9 @@
 """What a user names: a file, `-` for standard input, or `house` for the house book; text or bytes, told by the content."""
 
 import os
+import re
 import sys
+from collections.abc import Callable
 from pathlib import Path
 
 from workbench.book_bytes import decode_book, encode_book
@@ -19,6 +21,8 @@ MOST_BYTES = 2**20
 # Bytes that no text has, and every book and snapshot has one of: a book begins with 1 to 8, a snapshot has a count of 0 to 4 in it.
 NO_TEXT = frozenset(range(9)) | frozenset(range(14, 32))
 PRINTABLE = frozenset(range(32, 127)) | {9, 10, 13}
+# Bytes as `encode --hex` writes them. No text of a book is so, and of a pool none but one without its colons.
+BASE_SIXTEEN = re.compile(rb"\s*[0-9A-Fa-f]{2}(\s+[0-9A-Fa-f]{2})+\s*")
 
 
 def read_bytes(path: str, most: int = MOST_BYTES) -> bytes:
@@ -77,6 +81,13 @@ def _utf8_fault(data: bytes) -> int | None:
     return None
 
 
+def refuse_base_sixteen(data: bytes, source: str, meant: Callable[[bytes], object] = bool) -> None:
+    """A mistake where the text is bytes in base sixteen, if they are meant by it."""
+    if BASE_SIXTEEN.fullmatch(data) and meant(bytes.fromhex(data.decode())):
+        instead = "encode writes those without --hex, and `xxd -r -p` makes them of this"
+        raise Mistake(f"these are bytes as text in base sixteen, and the bytes themselves are due: {instead}", source)
+
+
 def read_text(data: bytes, source: str) -> str | None:
     """The text, or None where these are bytes. What is plainly text in another encoding is a mistake."""
     if is_text(data):
@@ -110,6 +121,7 @@ def read_book(path: str) -> tuple[Book | None, bytes, str]:
     data, name = read_bytes(file), source_name(file)
     if not data:
         raise Mistake("there is nothing in it: a book has at least one block, such as p { emp => p() }", name)
+    refuse_base_sixteen(data, name)
     text = read_text(data, name)
     if text is None:
         return decode_book(data), data, source_name(path)
@@ -122,6 +134,7 @@ def read_pool(path: str) -> tuple[Pool | None, bytes, str]:
     data, name = read_bytes(path), source_name(path)
     if not data:
         raise Mistake("there is nothing in it: write emp for a pool with no record, or lines such as 10: 20", name)
+    refuse_base_sixteen(data, name, decode_pool)
     text = read_text(data, name)
     if text is None:
         return decode_pool(data), data, name

@@ -11,6 +11,7 @@ from unittest import mock
 from workbench import sources
 from workbench.book_bytes import decode_book, encode_book
 from workbench.book_text import parse_book
+from workbench.coding import hex_text
 from workbench.mistake import Mistake
 from workbench.model import Pool, Record
 from workbench.pool_bytes import decode_pool, encode_pool
@@ -168,6 +169,16 @@ class Encodings(InDirectory):
     def test_latin_at_the_beginning(self) -> None:
         shown = self.said(read_book, self.file("Éa".encode("latin-1") + RING.encode()))
         self.assertTrue(shown.startswith("given:1:1: the byte C9 here is not UTF-8"), shown)
+
+    def test_base_sixteen(self) -> None:
+        instead = "encode writes those without --hex, and `xxd -r -p` makes them of this"
+        said = f"given: these are bytes as text in base sixteen, and the bytes themselves are due: {instead}"
+        pool = encode_pool(Pool((Record(10, (20,)), Record(20, (0,)))))
+        for read, data in ((read_book, RING_BYTES), (read_book, RING_BYTES[:-1]), (read_pool, pool)):
+            for text in (hex_text(data), data.hex(" "), f"\n{data.hex(' ')}\r\n"):
+                self.assertEqual(self.said(read, self.file(text.encode())), said)
+        # A pool whose colons are missing is none of this.
+        self.assertEqual(self.said(read_pool, self.file(b"10 20\n20 30\n")), "given:1:4: write : after the address 10, and not 20\n  10 20\n     ^")
 
     def test_text_beyond_ascii(self) -> None:
         book, _, _ = read_book(self.file("größe { emp => größe() } # ✓".encode()))
