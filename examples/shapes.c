@@ -1,5 +1,6 @@
 /* Lends memory, asks whether 10:(20) 20:(10) is a list segment from 10 to 10, reads the unfolding and has it checked. Then asks whether
- * some part of these records is a segment from 10 to 20, and has that checked. Last, the quick walk: it needs a plain book, and is lent nothing. */
+ * some part of these records is a segment from 10 to 20, and has that checked. Last, the quick walk, which is lent nothing: of a
+ * plain book, and of the first one, which it refuses since it is not plain. */
 #include <inttypes.h>
 #include <stdio.h>
 
@@ -55,5 +56,8 @@ int main(void)
     printf("walk to 30: refusal %" PRIu64 ", %s\n", refusal, said(refusal, verdict));
     refusal = shapes_walk(plain, sizeof plain, chain, sizeof chain, to_20, sizeof to_20, &verdict);
     printf("walk to 20: refusal %" PRIu64 ", %s\n", refusal, said(refusal, verdict));
+    /* After a 12 the engine has to be asked, as above. */
+    refusal = shapes_walk(book, sizeof book, snapshot, sizeof snapshot, question, sizeof question, &verdict);
+    printf("walk of the first book: refusal %" PRIu64 ", %s\n", refusal, said(refusal, verdict));
     return 0;
 }

@@ -1,6 +1,7 @@
 #!/usr/bin/env python3
 """Asks the shared library whether two records that point to one another are a list segment from the first to itself, reads the unfolding
-and has it checked; then the same for some part of the records; last, the quick walk of a plain book. target/libshapes.so is made by the first `./shapes ask`."""
+and has it checked; then the same for some part of the records; last, the quick walk, of a plain book and of
+the first one, which is not plain. target/libshapes.so is made by the first `./shapes ask`."""
 from ctypes import CDLL, byref, c_size_t, c_uint8, c_uint16, c_uint64
 from pathlib import Path
 
@@ -50,6 +51,6 @@ print(f"some part: refusal {refusal} verdict {verdict.value} records {part.value
 refusal = library.shapes_check_part(*asked, part, space, c_size_t(3 * lines.value), byref(taken))
 print(f"check of this part: refusal {refusal} taken {taken.value}")
 
-for question in (TO_30, TO_20):
-    refusal = library.shapes_walk(*lent(PLAIN, CHAIN, question), byref(verdict))
-    print(f"walk: refusal {refusal} verdict {verdict.value}")
+for blocks in ((PLAIN, CHAIN, TO_30), (PLAIN, CHAIN, TO_20), (BOOK, SNAPSHOT, QUESTION)):
+    refusal = library.shapes_walk(*lent(*blocks), byref(verdict))
+    print(f"walk: refusal {refusal} verdict {verdict.value}" + " (not plain: ask shapes_decide)" * (refusal == 12))

@@ -63,7 +63,7 @@ uint64_t shapes_check_part(const uint8_t *book, size_t book_len, const uint8_t *
 /* The quick walk, for plain books: it is lent no table and no space, unfolds the question from the top and has only a verdict. Once all is
  * read it tests whether the book is plain, and refuses any other with 12: then shapes_decide has to be asked. Without a refusal the verdict
  * says whether the whole heap fits (1) or does not (0), as that of shapes_decide does. README.md, "Plain books, quickly", says which books
- * are plain. */
+ * are plain, and `./shapes ask --walk` names the first rules that are in the way. */
 uint64_t shapes_walk(const uint8_t *book, size_t book_len, const uint8_t *snapshot, size_t snapshot_len,
                      const uint8_t *question, size_t question_len, uint64_t *verdict);
 
