@@ -35,7 +35,7 @@ def _parser() -> ArgumentParser:
 def ask_verb(arguments: list[str]) -> int:
     options = parsed(_parser(), arguments, 3, None)
     book_file, *pool_files, question_text = options.operands
-    book = question = None
+    book = question = plain = None
     try:
         _check_options(options.walk, options.part, options.save, len(pool_files))
         one_standard_input((book_file, *pool_files))
@@ -50,14 +50,14 @@ def ask_verb(arguments: list[str]) -> int:
             return _ask_one(options.operands, answer_about, options.save)
         if not options.json:
             return _ask_many(options.operands, answer_about, options.part)
-        status, results = _ask_json(pool_files, answer_about, options.save)
+        status, results, plain = _ask_json(pool_files, answer_about, options.save)
     except Mistake as mistake:
         if not options.json:
             raise
         # Whoever reads JSON gets an object then too.
         complain(mistake)
         status, results = FAULT, [report_json.not_read(source_name(file), mistake) for file in pool_files]
-    say(report_json.report(source_name(book_file), book, question, options.part, results, options.walk))
+    say(report_json.report(source_name(book_file), book, question, options.part, results, options.walk, plain))
     return status
 
 
@@ -124,19 +124,21 @@ def _ask_many(operands: list[str], answer_about: Callable[[str], Answer], some_p
     return status_of(kinds)
 
 
-def _ask_json(pool_files: list[str], answer_about: Callable[[str], Answer], save: str | None) -> tuple[int, list[dict]]:
-    results, saved = [], YES
+def _ask_json(pool_files: list[str], answer_about: Callable[[str], Answer], save: str | None) -> tuple[int, list[dict], dict | None]:
+    """The status, the results, and whether the book is plain where a pool got so far: each that did says the same."""
+    results, saved, plain = [], YES, None
     for file in pool_files:
         try:
             answer = answer_about(file)
             saved = _save(answer, save)
             results.append(report_json.result(source_name(file), answer, ask_next(answer)))
+            plain = plain or report_json.plain(answer)
         except Unusable:
             raise
         except Mistake as mistake:
             complain(mistake)
             results.append(report_json.not_read(source_name(file), mistake))
-    return max(saved, status_of([result["answer"] for result in results])), results
+    return max(saved, status_of([result["answer"] for result in results])), results, plain
 
 
 def _save(answer: Answer, save: str | None) -> int:

@@ -56,14 +56,14 @@ class Answer:
     @property
     def kind(self) -> str:
         if self.reply.refusal:
-            return NOT_ANSWERED if self.not_plain else REFUSED
+            return NOT_ANSWERED if self.reply.refusal == NOT_PLAIN else REFUSED
         return FITS if self.reply.verdict else DOES_NOT_FIT
 
 
 def ask(asked: Asked) -> Answer:
     reply = _reply(asked)
-    if reply.refusal == NOT_PLAIN and asked.book is not None:
-        return Answer(asked, reply, not_plain=not_plain(asked.book) or NO_REASON)
+    if reply.refusal == NOT_PLAIN:
+        return Answer(asked, reply, not_plain=(asked.book and not_plain(asked.book)) or NO_REASON)
     if reply.refusal:
         return Answer(asked, reply, detail=detail(asked))
     if asked.book is None or asked.pool is None or asked.question is None:

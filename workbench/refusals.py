@@ -14,10 +14,10 @@ SENTENCES = {
     9: "the question is not one about this book: name one of its predicates, with as many values as that has arguments and nothing more",
     10: "the memory lent does not fit together: lend a table of 1 to 65,535 words and an unfolding space of three times as many",
     11: "there are more than 65,535 facts: see whether a rule leaves an argument of its predicate free, which then takes every kept value",
-    12: "the book is not plain, and the walk answers for plain books alone: ask without --walk",
+    12: "the book is not plain, and the walk answers for plain books alone: ask without --walk, or change the book",
 }
 # What else helps where all records were asked about. About some part the walk cannot be asked.
-WITHOUT_A_TABLE = {11: "; or, if the book is plain, ask with --walk, which needs no table"}
+WITHOUT_A_TABLE = {11: "; or ask with --walk, which needs no table and answers if the book is plain"}
 
 
 def sentence(refusal: int, some_part: bool = False) -> str:

@@ -32,11 +32,11 @@ LARGER = "larger parts may fit as well; whether all records do is asked without 
 WALK_YES = "The walk gives no unfolding to show or to save. To have one, ask the engine:"
 WALK_NO = ("The walk's no is as strong as the engine's, since it refuses a book that is not plain. To ask the engine all the same:",)
 WALK_NOT_ANSWERED = (
-    " may fit or not: the walk answers for plain books alone, and refuses this one (refusal 12).",
-    "Why it is not plain, in the workbench's own words:",
+    " may fit or not: the walk answers for plain books alone, and refuses this book (refusal 12).",
+    "The first reason why it is not plain, in the workbench's own words:",
 )
 ASK_THE_ENGINE = "To ask the engine:"
-WHAT_IS_PLAIN = "README.md, Plain books, quickly, says what a plain book is."
+WHAT_IS_PLAIN = "docs/WORKBENCH.md, The quick walk, says what a plain book is and how a book becomes one."
 ORDINALS = ("first", "second", "third", "fourth")
 
 

@@ -3,23 +3,29 @@ form a new number."""
 
 import json
 
-from workbench.asking import NOT_ANSWERED, Answer
+from workbench.asking import NOT_ANSWERED, NOT_PLAIN, Answer
 from workbench.hints import Hints, Place
 from workbench.mistake import Mistake
 from workbench.model import Book, Question
 from workbench.names import Names
 from workbench.part import Part
-from workbench.plain import not_plain
 from workbench.refusals import sentence
 from workbench.unfolding import Line
 
-FORMAT = 1
+FORMAT = 2
 NOT_READ = "not read"
 
 
 def report(
-    book_name: str, book: Book | None, question: Question | None, some_part: bool, results: list[dict], by_walk: bool = False
+    book_name: str,
+    book: Book | None,
+    question: Question | None,
+    some_part: bool,
+    results: list[dict],
+    by_walk: bool = False,
+    plain: dict | None = None,
 ) -> str:
+    """`plain` is what one of the answers tells of the book."""
     asked = None
     if book and question:
         asked = {"predicate": book.predicates[question.predicate].name, "values": list(question.values)}
@@ -29,14 +35,18 @@ def report(
         "question": asked,
         "about": "part" if some_part else "whole",
         "by": "walk" if by_walk else "engine",
-        "plain": _plain(not_plain(book)) if by_walk and book else None,
+        "plain": plain,
         "results": results,
     }
     return json.dumps(whole, indent=2, ensure_ascii=False) + "\n"
 
 
-def _plain(reason: str) -> dict:
-    return {"holds": not reason, "reason": reason}
+def plain(answer: Answer) -> dict | None:
+    """Whether the book is plain, which the walk alone tests and only once all is read: 12 says that it is not, and a verdict that it is. The
+    words for the reason are the workbench's."""
+    if not answer.asked.by_walk or answer.reply.refusal not in (0, NOT_PLAIN):
+        return None
+    return {"holds": answer.reply.refusal == 0, "reason": answer.not_plain}
 
 
 def result(pool_name: str, answer: Answer, found: Answer | None = None) -> dict:
@@ -44,7 +54,7 @@ def result(pool_name: str, answer: Answer, found: Answer | None = None) -> dict:
     refusal = answer.reply.refusal
     message = "\n".join(filter(None, (sentence(refusal, answer.asked.some_part), answer.detail))) if refusal else ""
     if answer.kind == NOT_ANSWERED:
-        message = f"the pool may fit or not: {sentence(refusal)}: {answer.not_plain}"
+        message = f"the pool may fit or not: {sentence(refusal)}; the first reason: {answer.not_plain}"
     return {
         "pool": _unicode(pool_name),
         "answer": answer.kind,

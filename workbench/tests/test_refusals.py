@@ -18,7 +18,7 @@ class Sentences(unittest.TestCase):
 
     def test_without_a_table(self):
         """The walk is no way out where some part was asked about."""
-        self.assertEqual(sentence(11), f"{SENTENCES[11]}; or, if the book is plain, ask with --walk, which needs no table")
+        self.assertEqual(sentence(11), f"{SENTENCES[11]}; or ask with --walk, which needs no table and answers if the book is plain")
 
     def test_unknown(self):
         self.assertIn("does not know", sentence(13))

@@ -246,7 +246,7 @@ class Refused(unittest.TestCase):
         # Four free arguments over some ninety kept values are far more than 65,535 facts.
         book = Book((Predicate("p", 4),), (Rule(0, ("a", "b", "c", "d")),))
         pool = Pool(tuple(Record(100 * i, (1000 * i, 2000 * i)) for i in range(1, 17)))
-        for some_part, end in ((False, r"ask with --walk, which needs no table\n$"), (True, r"takes every kept value\n$")):
+        for some_part, end in ((False, r"ask with --walk, which needs no table and answers if the book is plain\n$"), (True, r"takes every kept value\n$")):
             answer = ask(asked(book, pool, Question(0, (1, 2, 3, 4)), some_part))
             for said in (answer_text(answer), f"{short_text(answer)}\n", f"refusal 11: {result('p', answer)['message']}\n"):
                 self.assertRegex(said, f"^refusal 11: there are more than 65,535 facts: .*{end}")

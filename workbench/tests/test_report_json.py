@@ -19,7 +19,7 @@ class Report(unittest.TestCase):
         found = result("two.pool", ask(asked(L, TWO, FROM_TEN_TO_TEN)))
         whole = json.loads(report("L.book", L, FROM_TEN_TO_TEN, False, [found]))
         self.assertEqual(list(whole), ["format", "book", "question", "about", "by", "plain", "results"])
-        self.assertEqual((whole["format"], whole["book"], whole["about"]), (1, "L.book", "whole"))
+        self.assertEqual((whole["format"], whole["book"], whole["about"]), (2, "L.book", "whole"))
         self.assertEqual((whole["by"], whole["plain"]), ("engine", None))
         self.assertEqual(whole["question"], {"predicate": "segment", "values": [10, 10]})
         self.assertEqual(whole["results"], [found])

@@ -15,7 +15,7 @@ from pathlib import Path
 from random import Random
 from unittest import mock
 
-from workbench import library
+from workbench import library, report_json
 from workbench.asking import DOES_NOT_FIT, FITS, NO_REASON, NOT_ANSWERED, NOT_PLAIN, REFUSED, Answer, ask, ask_next
 from workbench.book_bytes import encode_book, explain_book
 from workbench.book_text import parse_book
@@ -111,16 +111,16 @@ class Answers(unittest.TestCase):
         self.assertEqual((answer.kind, bool(answer.hints)), (NOT_ANSWERED, False))
         self.assertEqual(answer_text(answer), "not answered\n")
         due = (
-            " may fit or not: the walk answers for plain books alone, and refuses this one (refusal 12).\n"
-            "Why it is not plain, in the workbench's own words:\n"
+            " may fit or not: the walk answers for plain books alone, and refuses this book (refusal 12).\n"
+            "The first reason why it is not plain, in the workbench's own words:\n"
             "  the conditions of rules 1 and 2 of segment (lines 3 and 4) can both be met, for example by segment(1, 1)\n"
             "To ask the engine:\n"
             "  COMMAND\n"
-            "README.md, Plain books, quickly, says what a plain book is.\n"
+            "docs/WORKBENCH.md, The quick walk, says what a plain book is and how a book becomes one.\n"
         )
         self.assertEqual(walk_text(answer, "COMMAND"), f"The pool{due}")
         self.assertEqual(walk_text(answer, "COMMAND", "Any of them"), f"Any of them{due}")
-        self.assertIn("\n## Plain books, quickly\n", (ROOT / "README.md").read_text())
+        self.assertIn("\n### The quick walk\n", (ROOT / "docs/WORKBENCH.md").read_text())
 
     def test_refused(self):
         whole = replace(asked(PLAIN, TWO, FROM_TEN_TO_TWENTY), book_bytes=encode_book(PLAIN)[:-1], book=None, by_walk=True)
@@ -143,15 +143,16 @@ class Answers(unittest.TestCase):
 class Json(unittest.TestCase):
     def test_three_cases(self):
         reason = not_plain(L)
-        refused = f"the pool may fit or not: {sentence(NOT_PLAIN)}: {reason}"
+        refused = f"the pool may fit or not: {sentence(NOT_PLAIN)}; the first reason: {reason}"
         for book, refusal, verdict, answer, message, plain in (
             (PLAIN, 0, 1, "fits", "", {"holds": True, "reason": ""}),
             (PLAIN, 0, 0, "does not fit", "", {"holds": True, "reason": ""}),
             (L, NOT_PLAIN, 0, "not answered", refused, {"holds": False, "reason": reason}),
         ):
             with self.subTest(answer=answer, plain=plain), saying(verdict, refusal):
-                found = result("two.pool", walked(book, TWO, FROM_TEN_TO_TWENTY))
-                whole = json.loads(report("b", book, FROM_TEN_TO_TWENTY, False, [found], by_walk=True))
+                told = walked(book, TWO, FROM_TEN_TO_TWENTY)
+                found = result("two.pool", told)
+                whole = json.loads(report("b", book, FROM_TEN_TO_TWENTY, False, [found], by_walk=True, plain=report_json.plain(told)))
                 self.assertEqual((whole["about"], whole["by"], whole["plain"]), ("whole", "walk", plain))
                 self.assertEqual((found["answer"], found["message"], found["refusal"]), (answer, message, refusal))
                 self.assertEqual((found["facts"], found["rounds"], found["unfolding"], found["part"]), (0, 0, [], None))
@@ -162,8 +163,23 @@ class Json(unittest.TestCase):
         found = result("two.pool", walked(PLAIN, TWO, Question(0, (10, 5))))
         self.assertEqual(found["hints"]["outside"], [{"argument": 2, "value": 5}])
 
-    def test_a_book_that_cannot_be_read(self):
-        self.assertIsNone(json.loads(report("b", None, None, False, [], by_walk=True))["plain"])
+    def test_whether_the_book_is_plain_is_the_librarys(self):
+        """Whatever the workbench's own test says: that only finds the words."""
+        for book, refusal, due in (
+            (PLAIN, NOT_PLAIN, {"holds": False, "reason": NO_REASON}),
+            (L, NOT_PLAIN, {"holds": False, "reason": not_plain(L)}),
+            (L, 0, {"holds": True, "reason": ""}),
+            (L, 9, None),
+            (PLAIN, 7, None),
+        ):
+            with self.subTest(refusal=refusal, due=due), saying(0, refusal):
+                self.assertEqual(report_json.plain(walked(book, TWO, FROM_TEN_TO_TWENTY)), due)
+        self.assertIsNone(report_json.plain(ask(asked(PLAIN, TWO, FROM_TEN_TO_TWENTY))))
+
+    def test_bytes_that_only_the_library_reads(self):
+        with refusing():
+            answer = ask(replace(asked(PLAIN, TWO, FROM_TEN_TO_TWENTY), book_bytes=b"", book=None, by_walk=True))
+        self.assertEqual((answer.kind, answer.not_plain, report_json.plain(answer)["holds"]), (NOT_ANSWERED, NO_REASON, False))
 
     def test_refused(self):
         found = result("p", Answer(replace(asked(L, TWO, FROM_TEN_TO_TWENTY), by_walk=True), Reply(7)))
@@ -202,6 +218,26 @@ class Command(unittest.TestCase):
             whole = json.loads(run_inside("ask", "--walk", *QUEUE, "--json")[1])
         self.assertEqual((whole["about"], whole["by"], whole["plain"]), ("whole", "walk", {"holds": False, "reason": REASON}))
         self.assertEqual([found["answer"] for found in whole["results"]], ["not answered"])
+
+    def test_json_of_whether_the_book_is_plain(self):
+        """Known once the walk got so far with one pool; not where each is refused before, or nothing was asked."""
+        bad = self.folder / "pool"
+        bad.write_bytes(bytes.fromhex("02 14000000 00 0A000000 00"))
+        twice = "examples/mistakes/same-address.pool"
+        plain, other = {"holds": True, "reason": ""}, {"holds": False, "reason": REASON}
+        for arguments, due in (
+            ([*FIT], plain),
+            ([*NO_FIT], plain),
+            ([*QUEUE], other),
+            ([FIT[0], str(bad), twice, FIT[1], FIT[2]], plain),
+            ([QUEUE[0], QUEUE[1], str(bad), QUEUE[2]], other),
+            ([QUEUE[0], str(bad), twice, QUEUE[2]], None),
+            ([QUEUE[0], QUEUE[1], "segment(10)"], None),
+            ([*FIT, "--part"], None),
+        ):
+            with self.subTest(arguments=arguments):
+                self.assertEqual(json.loads(run_inside("ask", "--walk", "--json", *arguments)[1])["plain"], due)
+        self.assertIsNone(json.loads(run_inside("ask", "--json", *QUEUE)[1])["plain"])
 
     def test_several_pools(self):
         pools = ["examples/segment.pool", "examples/circle.pool", "examples/mistakes/same-address.pool"]
@@ -300,6 +336,28 @@ class Documented(unittest.TestCase):
         self.assertEqual(self.verdict(self.TREE, pool, "tree(10, nil)"), FITS)
         for root, due in ((10, FITS), (20, DOES_NOT_FIT)):
             self.assertEqual(self.verdict(f"{self.TREE} root {{ {rule} }}", pool, f"root({root})"), due)
+
+    def test_a_variable_that_is_not_fixed(self):
+        """By either of the ways that the table names, and a name that nothing uses."""
+        lists = "list { a = nil => list(a) | a != nil * a -> n * list(n) => list(a) } ; "
+        rule = "exists c: a -> b * list(b) * list(c) => and_another(a)"
+        for words in (rule, "and_another(a, c)", "a -> (b, c)"):
+            self.assertIn(f"`{words}`", self.TEXT)
+        pool = "10: 20\n20: nil\n30: nil"
+        self.assertEqual(self.verdict(f"{lists} and_another {{ {rule} }}", pool, "and_another(10)", plain=False), NOT_ANSWERED)
+        by_argument = f"{lists} and_another {{ {rule.replace('exists c: ', '').replace('(a)', '(a, c)')} }}"
+        for other, due in ((30, FITS), ("nil", DOES_NOT_FIT)):
+            self.assertEqual(self.verdict(by_argument, pool, f"and_another(10, {other})"), due)
+        by_field = f"{lists} and_another {{ {rule.replace('exists c: ', '').replace('-> b', '-> (b, c)')} }}"
+        self.assertEqual(self.verdict(by_field, "10: 20, 30\n20: nil\n30: nil", "and_another(10)"), FITS)
+        self.assertEqual(reason("p { exists z: a = nil => p(a) }"), "variable z of rule 1 of p (line 1) is not fixed")
+        self.assertEqual(reason("p { a = nil => p(a) }"), "")
+
+    def test_rules_that_the_head_keeps_apart(self):
+        first, second = "a = nil => list(a)", "a -> next * list(next) => list(a)"
+        self.assertIn(f"`{first}` with `{second}`: both are met by `list(nil)`", self.TEXT)
+        self.assertRegex(reason(f"list {{ {first} | {second} }}"), r"by list\(nil\)$")
+        self.assertEqual(self.verdict(f"list {{ {first} | a != nil * {second} }}", "10: 20\n20: nil", "list(10)"), FITS)
 
     def test_rules_that_differ_in_a_field(self):
         rule = "q -> (h, t) * body(h, t) => queue(q)"
