@@ -20,7 +20,7 @@ from workbench.asking import DOES_NOT_FIT, FITS, NO_REASON, NOT_ANSWERED, NOT_PL
 from workbench.book_bytes import encode_book, explain_book
 from workbench.book_text import parse_book
 from workbench.library import ROOT, Reply
-from workbench.model import EQUAL, FIRST_CONSTANT, NIL, UNEQUAL, Book, Call, Cell, Condition, Pool, Predicate, Question, Rule
+from workbench.model import END_MARK, EQUAL, FIRST_CONSTANT, NIL, UNEQUAL, Book, Call, Cell, Condition, Pool, Predicate, Question, Rule
 from workbench.plain import not_plain
 from workbench.pool_bytes import encode_pool
 from workbench.pool_text import parse_pool
@@ -33,7 +33,7 @@ from workbench.tests.engine_samples import CHAIN, FROM_TEN_TO_NIL, FROM_TEN_TO_T
 from workbench.tests.samples import repository_blocks
 from workbench.tests.test_asking import some_book, some_chains, some_pool
 from workbench.tests.test_cli import COMMAND, run_inside
-from workbench.tests.test_plain import reason
+from workbench.tests.test_plain import CONSTANTS, reason, some_rule
 from workbench.tests.test_render import asked
 
 # This fits, and the walk refuses the book: the rule asked about has calls and no cell.
@@ -89,6 +89,20 @@ class Answers(unittest.TestCase):
             self.assertEqual(refusal, NOT_PLAIN if not_plain(book) else 0)
             found[refusal] += 1
         self.assertGreater(min(found[0], found[NOT_PLAIN]), 300)
+
+    def test_rules_of_any_conditions(self):
+        """The same, on rules with chains of equalities, contradictions, and constants that are equal, 0 or the end mark."""
+        chance = Random(14)
+        found: Counter[str] = Counter()
+        for _ in range(2000):
+            arguments, constants = chance.randrange(4), chance.choice(((), CONSTANTS))
+            rules = [some_rule(chance, arguments, chance.choice((0, 0, 1, 2)), len(constants)) for _ in range(chance.randrange(1, 4))]
+            book = Book((Predicate("p", arguments),), tuple(rules), constants)
+            blocks = encode_book(book, chance.choice((0, END_MARK))), encode_pool(Pool(())), encode_question(Question(0, (0,) * arguments))
+            reason = not_plain(book)
+            self.assertEqual(library.walk(*blocks)[0], NOT_PLAIN if reason else 0, book)
+            found[reason[:8]] += 1
+        self.assertGreater(min(found[""], found["variable"], found["the cond"]), 150, found)
 
     def test_does_not_fit_where_the_book_is_plain(self):
         answer = walked(PLAIN, TWO, Question(0, (10, 5)))
