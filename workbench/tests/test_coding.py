@@ -76,6 +76,8 @@ class Coded(unittest.TestCase):
 
     def test_text_already(self):
         self.assertRaisesRegex(Mistake, "this is text already", decode_pool_file, CIRCLE)
+        for decode, data in ((decode_book_file, L_BYTES), (decode_pool_file, TWO_BYTES), (decode_bench_file, encode_bench(L_BYTES, TWO_BYTES, b""))):
+            self.assertRaisesRegex(Mistake, "these are bytes as text in base sixteen", decode, self.file(hex_text(data).encode()))
 
     def test_hex(self):
         self.assertEqual(hex_text(b""), "")
