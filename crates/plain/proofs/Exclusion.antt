@@ -1,6 +1,6 @@
 -- Two rules of one predicate exclude each other exactly if they do not overlap: arguments that both allow, with the bound values of each, are
 -- values of all variables together, and the other way round.
-use mathlib.Core.{Bool.Bool, Bool.true, Bool.false, Bool.false≢true, Path._≡_, Path.refl, Path.sym, Path.ap, Path._∙_, Logic.⊎-elim, List.List, List._++_}
+use mathlib.Core.{Bool.Bool, Bool.true, Bool.false, Bool.false≢true, Path._≡_, Path.refl, Path.sym, Path.ap, Path._∙_, Logic._⊎_, Logic.inl, Logic.inr, Logic.⊎-elim, Logic._↔_, List.List, List._++_}
 use Prim.Native.Nat.{ℕ, _+_, _-_, _≤_, _<_}
 use native.Mathlib.{Omega.arith, Decide.decLt}
 use borrow.Author.Tests.{lt-ltb, le-ltb}
@@ -94,19 +94,33 @@ one-value value σ arity t few =
     ⊎-elim (λ l. sym (entry-shared value 8 σ t (omega arith) (omega arith)) ∙ entry-shared value arity σ t (omega arith) l)
     (λ g. sym (entry-fixed value 8 σ t g) ∙ entry-fixed value arity σ t g)
 
+-- two pairs of the same numbers, in either order, are equal or unequal alike
+same-pair : {x y u v : ℕ} → ((x ≡ u) × (y ≡ v)) ⊎ ((x ≡ v) × (y ≡ u)) → (x ≡ y) ↔ (u ≡ v)
+same-pair =
+    ⊎-elim (λ p. (λ e. sym (p .0) ∙ e ∙ p .1, λ e. p .0 ∙ e ∙ sym (p .1)))
+    (λ p. (λ e. sym (p .1) ∙ sym e ∙ p .0, λ e. p .0 ∙ sym e ∙ sym (p .1)))
+
 opposed-apart : (value : ℕ → ℕ) (rules : List ℕ) (at other : ℕ) → headArity rules at ≤ 4 → Opposed rules at other → ¬ Overlaps value rules at other
 opposed-apart value rules at other few o w =
-    ⊎-elim (λ k. w .second .unequals 0 (o .some-other) (k .1) (sym left ∙ w .first .equals 0 (o .some) (k .0) ∙ right))
-    (λ k. w .first .unequals 0 (o .some) (k .0) (left ∙ w .second .equals 0 (o .some-other) (k .1) ∙ sym right)) (o .kinds)
+    ⊎-elim (λ k. w .second .unequals 0 (o .some-other) (k .1) (alike .0 (w .first .equals 0 (o .some) (k .0))))
+    (λ k. w .first .unequals 0 (o .some) (k .0) (alike .1 (w .second .equals 0 (o .some-other) (k .1)))) (o .kinds)
   where
-    side : ℕ → ℕ
-    side t = entryBy value (headArity rules at) (w .σ) t
+    first : ℕ → ℕ
+    first t = entryBy value 8 (w .σ) t
 
-    left : entryBy value 8 (w .σ) (pureLeft rules at 0) ≡ side (pureLeft rules other 0)
-    left = one-value value (w .σ) (headArity rules at) (pureLeft rules at 0) few (o .left-shared) ∙ ap side (o .left)
+    second : ℕ → ℕ
+    second t = entryBy value (headArity rules at) (w .σ) t
 
-    right : entryBy value 8 (w .σ) (pureRight rules at 0) ≡ side (pureRight rules other 0)
-    right = one-value value (w .σ) (headArity rules at) (pureRight rules at 0) few (o .right-shared) ∙ ap side (o .right)
+    left : first (pureLeft rules at 0) ≡ second (pureLeft rules at 0)
+    left = one-value value (w .σ) (headArity rules at) (pureLeft rules at 0) few (o .left-shared)
+
+    right : first (pureRight rules at 0) ≡ second (pureRight rules at 0)
+    right = one-value value (w .σ) (headArity rules at) (pureRight rules at 0) few (o .right-shared)
+
+    alike : (first (pureLeft rules at 0) ≡ first (pureRight rules at 0)) ↔ (second (pureLeft rules other 0) ≡ second (pureRight rules other 0))
+    alike =
+        same-pair
+        (⊎-elim (λ t. inl (left ∙ ap second (t .0), right ∙ ap second (t .1))) (λ t. inr (left ∙ ap second (t .0), right ∙ ap second (t .1))) (o .terms))
 
 -- ---- exclusion
 

@@ -11,12 +11,17 @@ Shared arity t = (t < arity) ⊎ (128 ≤ t)
 abbrev pub KindsDiffer : List ℕ → ℕ → ℕ → Type 0
 KindsDiffer rules at other = ((pureKind rules at 0 ≡ 0) × (pureKind rules other 0 ≢ 0)) ⊎ ((pureKind rules at 0 ≢ 0) × (pureKind rules other 0 ≡ 0))
 
--- The first conditions of two rules have the same terms, which both rules share, and only one of them is an equality.
+-- They have the same terms, in either order.
+abbrev pub SameTerms : List ℕ → ℕ → ℕ → Type 0
+SameTerms rules at other =
+    ((pureLeft rules at 0 ≡ pureLeft rules other 0) × (pureRight rules at 0 ≡ pureRight rules other 0))
+    ⊎ ((pureLeft rules at 0 ≡ pureRight rules other 0) × (pureRight rules at 0 ≡ pureLeft rules other 0))
+
+-- The first conditions have the same terms, which both rules share, and only one of them is an equality.
 pub record Opposed (rules : List ℕ) (at other : ℕ) : Type 0 where
   pub some : 0 < pureCount rules at
   pub some-other : 0 < pureCount rules other
-  pub left : pureLeft rules at 0 ≡ pureLeft rules other 0
-  pub right : pureRight rules at 0 ≡ pureRight rules other 0
+  pub terms : SameTerms rules at other
   pub left-shared : Shared (headArity rules at) (pureLeft rules at 0)
   pub right-shared : Shared (headArity rules at) (pureRight rules at 0)
   pub kinds : KindsDiffer rules at other

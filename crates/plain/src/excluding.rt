@@ -25,7 +25,7 @@ ghost use Rattle.words.specs.Told.{Told};
 ghost use Rattle.block.specs.Layout.{constantCount, ruleAs, ruleSetRead, fixedIn, ruleCount, ruleSetSize, ruleSize};
 ghost use Rattle.block.specs.Ready.{FormedRead};
 ghost use Rattle.plain.specs.Classes.{ClassesOf, Overlaps};
-ghost use Rattle.plain.specs.Opposed.{Shared, KindsDiffer, Opposed, Parted};
+ghost use Rattle.plain.specs.Opposed.{Shared, KindsDiffer, SameTerms, Opposed, Parted};
 ghost use Rattle.plain.specs.Plain.{RulesReadable, RulePlace, ExcludesFrom, ExcludesLater};
 
 // Whether a term is one of so many arguments, or a fixed value: in two rules with one head it is the same.
@@ -49,22 +49,34 @@ fn kinds_differ(rules: &RuleBlock, rule: usize, other: usize) -> bool
     pure_kind(rules, other, 0) == 0
 }
 
-// Whether the first conditions of two rules have the same terms, arguments or fixed values, and only one is an equality.
+// Whether the first conditions of two rules have the same terms, in either order.
+fn same_terms(rules: &RuleBlock, rule: usize, other: usize) -> bool
+    requires { ⌜ (rule + ruleSize ≤ ruleSetSize) × (other + ruleSize ≤ ruleSetSize) ⌝ }
+    ensures { λ (r : Bool). ⌜ (r ≡ true → SameTerms (now (rules .entry)) rule other) ⌝ }
+{
+    let left = pure_left(rules, other, 0);
+    let right = pure_right(rules, other, 0);
+    if pure_left(rules, rule, 0) == left {
+        return pure_right(rules, rule, 0) == right;
+    }
+    if pure_left(rules, rule, 0) == right {
+        return pure_right(rules, rule, 0) == left;
+    }
+    false
+}
+
+// Whether the first conditions of two rules compare the same arguments or fixed values, and only one is an equality.
 fn opposed(rules: &RuleBlock, rule: usize, other: usize) -> bool
     requires { ⌜ (rule + ruleSize ≤ ruleSetSize) × (other + ruleSize ≤ ruleSetSize) ⌝ }
     ensures { λ (r : Bool). ⌜ (r ≡ true → Opposed (now (rules .entry)) rule other) ⌝ }
 {
     let arity = head_arity(rules, rule);
-    let left = pure_left(rules, rule, 0);
-    let right = pure_right(rules, rule, 0);
     if pure_count(rules, rule) != 0 {
         if pure_count(rules, other) != 0 {
-            if left == pure_left(rules, other, 0) {
-                if right == pure_right(rules, other, 0) {
-                    if shared(left, arity) {
-                        if shared(right, arity) {
-                            return kinds_differ(rules, rule, other);
-                        }
+            if same_terms(rules, rule, other) {
+                if shared(pure_left(rules, rule, 0), arity) {
+                    if shared(pure_right(rules, rule, 0), arity) {
+                        return kinds_differ(rules, rule, other);
                     }
                 }
             }
