@@ -8,10 +8,10 @@ use lib.{ListN.length, ListN.getD, ListN.List·getD-append, Dec.ltb}
 use Rattle.semantics.specs.{RuleSet.arity, Plain.Allows, Plain.Exclude}
 use Rattle.words.specs.Entries.{tabulate}
 use Rattle.words.proofs.Tabulate.{tabulate-length, tabulate-at, tabulate-same, tabulate-add}
-use Rattle.block.specs.Layout.{ruleAs, ruleSetRead, fixedIn, constantsIn, headIn, boundIn, headArity, pureCount, pureLeft, pureRight}
+use Rattle.block.specs.Layout.{ruleAs, ruleSetRead, fixedIn, constantsIn, headIn, boundIn, headArity, pureLeft, pureRight}
 use Rattle.block.specs.Ready.{FormedRule, variablesIn}
 use Rattle.block.proofs.RuleAs.{head-arity-is}
-use Rattle.plain.specs.Classes.{seat, entryBy, EqualsMet, SideMet, Overlaps}
+use Rattle.plain.specs.Classes.{seat, entryBy, SideMet, Overlaps}
 use Rattle.plain.specs.Opposed.{Shared, Opposed, Parted}
 use Rattle.plain.specs.Plain.{RulesReadable, RulePlace}
 use Rattle.plain.proofs.{Seats.seat-shared, Seats.seat-own, Seats.entry-shared, Seats.entry-fixed, Sides.Seated, Sides.side-met, Sides.met-side}
@@ -86,7 +86,7 @@ module _ (value : ℕ → ℕ) {Fixed : ℕ → Type 0} (rules : List ℕ) (at o
       second = side-met value rules other (headArity rules at) o (besides (arguments ++ a .bound) (arguments ++ b .bound)) (arguments ++ b .bound) second-seated (b .meets);
     }
 
--- ---- first conditions
+-- ---- opposed conditions
 
 -- a shared term has one value in both rules
 one-value : (value σ : ℕ → ℕ) (arity t : ℕ) → arity ≤ 4 → Shared arity t → entryBy value 8 σ t ≡ entryBy value arity σ t
@@ -100,10 +100,10 @@ same-pair =
     ⊎-elim (λ p. (λ e. sym (p .0) ∙ e ∙ p .1, λ e. p .0 ∙ e ∙ sym (p .1)))
     (λ p. (λ e. sym (p .1) ∙ sym e ∙ p .0, λ e. p .0 ∙ sym e ∙ sym (p .1)))
 
-opposed-apart : (value : ℕ → ℕ) (rules : List ℕ) (at other : ℕ) → headArity rules at ≤ 4 → Opposed rules at other → ¬ Overlaps value rules at other
-opposed-apart value rules at other few o w =
-    ⊎-elim (λ k. w .second .unequals 0 (o .some-other) (k .1) (alike .0 (w .first .equals 0 (o .some) (k .0))))
-    (λ k. w .first .unequals 0 (o .some) (k .0) (alike .1 (w .second .equals 0 (o .some-other) (k .1)))) (o .kinds)
+opposed-apart : (value : ℕ → ℕ) (rules : List ℕ) (at other k : ℕ) → headArity rules at ≤ 4 → Opposed rules at other k → ¬ Overlaps value rules at other
+opposed-apart value rules at other k few o w =
+    ⊎-elim (λ e. w .second .unequals k (o .some-other) (e .1) (alike .0 (w .first .equals k (o .some) (e .0))))
+    (λ e. w .first .unequals k (o .some) (e .0) (alike .1 (w .second .equals k (o .some-other) (e .1)))) (o .kinds)
   where
     first : ℕ → ℕ
     first t = entryBy value 8 (w .σ) t
@@ -111,13 +111,13 @@ opposed-apart value rules at other few o w =
     second : ℕ → ℕ
     second t = entryBy value (headArity rules at) (w .σ) t
 
-    left : first (pureLeft rules at 0) ≡ second (pureLeft rules at 0)
-    left = one-value value (w .σ) (headArity rules at) (pureLeft rules at 0) few (o .left-shared)
+    left : first (pureLeft rules at k) ≡ second (pureLeft rules at k)
+    left = one-value value (w .σ) (headArity rules at) (pureLeft rules at k) few (o .left-shared)
 
-    right : first (pureRight rules at 0) ≡ second (pureRight rules at 0)
-    right = one-value value (w .σ) (headArity rules at) (pureRight rules at 0) few (o .right-shared)
+    right : first (pureRight rules at k) ≡ second (pureRight rules at k)
+    right = one-value value (w .σ) (headArity rules at) (pureRight rules at k) few (o .right-shared)
 
-    alike : (first (pureLeft rules at 0) ≡ first (pureRight rules at 0)) ↔ (second (pureLeft rules other 0) ≡ second (pureRight rules other 0))
+    alike : (first (pureLeft rules at k) ≡ first (pureRight rules at k)) ↔ (second (pureLeft rules other k) ≡ second (pureRight rules other k))
     alike =
         same-pair
         (⊎-elim (λ t. inl (left ∙ ap second (t .0), right ∙ ap second (t .1))) (λ t. inr (left ∙ ap second (t .0), right ∙ ap second (t .1))) (o .terms))
@@ -145,18 +145,18 @@ module _ {given rules : List ℕ} (read : RulesReadable given rules) {at other :
       (allows-first (fixedIn given) rules at 8 (p .formed) (w .σ) (omega (arith, p .formed .ready .head-arity)) (w .first))
       (rw (same-arity (fixedIn given) rules at other (p .formed) (q .formed) same) second)
 
-  -- a rule whose equalities nothing meets
-  pub unmet-excluded : ((σ : ℕ → ℕ) → ¬ EqualsMet (fixedIn given) rules at 8 (pureCount rules at) σ) → Excluded
+  -- a rule that nothing meets
+  pub unmet-excluded : ((σ : ℕ → ℕ) → ¬ SideMet (fixedIn given) rules at 8 σ) → Excluded
   unmet-excluded never same arguments counted a b =
-      never (besides (arguments ++ a .bound) arguments) (first-met (fixedIn given) rules at (p .formed) arguments (counted ∙ arity-of) a arguments .equals)
+      never (besides (arguments ++ a .bound) arguments) (first-met (fixedIn given) rules at (p .formed) arguments (counted ∙ arity-of) a arguments)
 
   -- rules that are told apart at a glance, and others
   pub parted-excluded : {told : Bool} → Parted rules at other told → told ≡ true → Excluded
   parted-excluded (Parted.heads t n) e = λ same. absurd (n same)
-  parted-excluded (Parted.opposed t o) e = excluded (opposed-apart (fixedIn given) rules at other (p .formed .ready .head-arity) o)
+  parted-excluded (Parted.opposed t k o) e = excluded (opposed-apart (fixedIn given) rules at other k (p .formed .ready .head-arity) o)
   parted-excluded (Parted.unknown f same) e = absurd (false≢true (sym f ∙ e))
 
   pub not-parted : {told : Bool} → Parted rules at other told → told ≡ false → headIn rules at ≡ headIn rules other
   not-parted (Parted.heads t n) e = absurd (false≢true (sym e ∙ t))
-  not-parted (Parted.opposed t o) e = absurd (false≢true (sym e ∙ t))
+  not-parted (Parted.opposed t k o) e = absurd (false≢true (sym e ∙ t))
   not-parted (Parted.unknown f same) e = same

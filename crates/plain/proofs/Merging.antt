@@ -1,6 +1,6 @@
 -- Two entries made the same. Values that follow then followed before and give both the same value; and values that followed before and do
 -- so follow then. Two different values cannot be made the same.
-use mathlib.Core.{Bool.Bool, Bool.true, Bool.false, Bool.false≢true, Path._≡_, Path.refl, Path.sym, Path.ap, Path._∙_, Logic._≢_, List.List}
+use mathlib.Core.{Bool.Bool, Bool.true, Bool.false, Bool.false≢true, Path._≡_, Path.refl, Path.sym, Path.ap, Path._∙_, Logic._≢_, Logic._↔_, List.List}
 use Prim.Native.Nat.{ℕ, _+_, _-_, _≤_}
 use native.Mathlib.{Omega.arith, Decide.ℕ-discrete}
 use borrow.Author.Tests.{lt-ltb, le-ltb, eq-eqb, ne-eqb}
@@ -125,3 +125,10 @@ fresh-follows classes fresh σ = record {
 -- the entries follow themselves
 pub self-follows : (classes : List ℕ) → Follows (entriesOf classes) classes
 self-follows classes = record { image = λ x. x; fixes = λ x h. refl; is = λ v h. refl }
+
+-- what follows once a condition was merged into the beginning is what meets it
+pub fresh-merged : {Met : (ℕ → ℕ) → Type 0} {before after : List ℕ} {ok : Bool} → Fresh before → ok ≡ true → Merged Met before after ok
+    → (σ : ℕ → ℕ) → Follows σ after ↔ Met σ
+fresh-merged {Met} {before} fresh t m σ =
+    let done = merged-done {Met = Met} t m in
+    (λ f. done .out σ f .1, λ met. done .into σ (fresh-follows before fresh σ) met)

@@ -4,7 +4,7 @@ use mathlib.Core.{Path.sym, Path.ap, Path._∙_, List.List}
 use Prim.Native.Nat.{ℕ}
 use Rattle.block.specs.Layout.{fixedIn, headArity, pureCount, pureLeft, pureRight}
 use Rattle.block.specs.Ready.{FormedRead, variablesIn}
-use Rattle.plain.specs.Classes.{entriesOf, Follows, Merged, ClassesOf, EqualsMet, UnequalsMet, Overlaps}
+use Rattle.plain.specs.Classes.{entriesOf, Follows, Merged, ClassesOf, EqualsMet, UnequalsMet, SideMet, Overlaps}
 use Rattle.plain.proofs.{Seats.entry-image, Merging.MergedTo, Merging.self-follows}
 
 -- what values tell apart, the entries do
@@ -15,6 +15,11 @@ unequals-back given rules at shared f σ classes follows met k h n e =
     (entry-image (fixedIn given) shared (variablesIn rules at) (pureLeft rules at k) (f .ready .variables-few) (f .ready .pure-left k h) σ classes follows
     ∙ ap (follows .image) e
     ∙ sym (entry-image (fixedIn given) shared (variablesIn rules at) (pureRight rules at k) (f .ready .variables-few) (f .ready .pure-right k h) σ classes follows))
+
+-- a rule whose own conditions the entries of its classes do not meet is met by nothing
+pub unmet-alone : (given rules : List ℕ) (at : ℕ) → FormedRead given rules at → (classes : List ℕ) → ClassesOf (fixedIn given) rules at classes
+    → ¬ UnequalsMet (fixedIn given) rules at 8 (pureCount rules at) (entriesOf classes) → (σ : ℕ → ℕ) → ¬ SideMet (fixedIn given) rules at 8 σ
+unmet-alone given rules at f classes is n σ met = n (unequals-back given rules at 8 f σ classes (is σ .1 (met .equals)) (met .unequals))
 
 module _ (given rules : List ℕ) (at other : ℕ) (f : FormedRead given rules at) (o : FormedRead given rules other) (classes both : List ℕ) (is : ClassesOf (fixedIn given) rules at classes) where
   -- the second rule's equalities cannot be merged

@@ -22,7 +22,7 @@ ghost use Prim.Native.Nat.{_+_, _≤_, _<_};
 ghost use lib.ListN.{length};
 ghost use Rattle.semantics.specs.Plain.{Exclude};
 ghost use Rattle.words.specs.Told.{Told};
-ghost use Rattle.block.specs.Layout.{constantCount, ruleAs, ruleSetRead, fixedIn, ruleCount, ruleSetSize, ruleSize};
+ghost use Rattle.block.specs.Layout.{constantCount, ruleAs, ruleSetRead, fixedIn, ruleCount, pureCount, ruleSetSize, ruleSize};
 ghost use Rattle.block.specs.Ready.{FormedRead};
 ghost use Rattle.plain.specs.Classes.{ClassesOf, Overlaps};
 ghost use Rattle.plain.specs.Opposed.{Shared, KindsDiffer, SameTerms, Opposed, Parted};
@@ -38,46 +38,44 @@ fn shared(term: u8, arity: usize) -> bool
     wide(term) < arity
 }
 
-// Whether only one of the first conditions of two rules is an equality.
-fn kinds_differ(rules: &RuleBlock, rule: usize, other: usize) -> bool
-    requires { ⌜ (rule + ruleSize ≤ ruleSetSize) × (other + ruleSize ≤ ruleSetSize) ⌝ }
-    ensures { λ (r : Bool). ⌜ (r ≡ true → KindsDiffer (now (rules .entry)) rule other) ⌝ }
+// Whether only one of the conditions k of two rules is an equality.
+fn kinds_differ(rules: &RuleBlock, rule: usize, other: usize, k: usize) -> bool
+    requires { ⌜ (rule + ruleSize ≤ ruleSetSize) × (other + ruleSize ≤ ruleSetSize) × (k < 8) ⌝ }
+    ensures { λ (r : Bool). ⌜ (r ≡ true → KindsDiffer (now (rules .entry)) rule other k) ⌝ }
 {
-    if pure_kind(rules, rule, 0) == 0 {
-        return pure_kind(rules, other, 0) != 0;
+    if pure_kind(rules, rule, k) == 0 {
+        return pure_kind(rules, other, k) != 0;
     }
-    pure_kind(rules, other, 0) == 0
+    pure_kind(rules, other, k) == 0
 }
 
-// Whether the first conditions of two rules have the same terms, in either order.
-fn same_terms(rules: &RuleBlock, rule: usize, other: usize) -> bool
-    requires { ⌜ (rule + ruleSize ≤ ruleSetSize) × (other + ruleSize ≤ ruleSetSize) ⌝ }
-    ensures { λ (r : Bool). ⌜ (r ≡ true → SameTerms (now (rules .entry)) rule other) ⌝ }
+// Whether the conditions k of two rules have the same terms, in either order.
+fn same_terms(rules: &RuleBlock, rule: usize, other: usize, k: usize) -> bool
+    requires { ⌜ (rule + ruleSize ≤ ruleSetSize) × (other + ruleSize ≤ ruleSetSize) × (k < 8) ⌝ }
+    ensures { λ (r : Bool). ⌜ (r ≡ true → SameTerms (now (rules .entry)) rule other k) ⌝ }
 {
-    let left = pure_left(rules, other, 0);
-    let right = pure_right(rules, other, 0);
-    if pure_left(rules, rule, 0) == left {
-        return pure_right(rules, rule, 0) == right;
+    let left = pure_left(rules, other, k);
+    let right = pure_right(rules, other, k);
+    if pure_left(rules, rule, k) == left {
+        return pure_right(rules, rule, k) == right;
     }
-    if pure_left(rules, rule, 0) == right {
-        return pure_right(rules, rule, 0) == left;
+    if pure_left(rules, rule, k) == right {
+        return pure_right(rules, rule, k) == left;
     }
     false
 }
 
-// Whether the first conditions of two rules compare the same arguments or fixed values, and only one is an equality.
-fn opposed(rules: &RuleBlock, rule: usize, other: usize) -> bool
-    requires { ⌜ (rule + ruleSize ≤ ruleSetSize) × (other + ruleSize ≤ ruleSetSize) ⌝ }
-    ensures { λ (r : Bool). ⌜ (r ≡ true → Opposed (now (rules .entry)) rule other) ⌝ }
+// Whether the conditions k of two rules compare the same arguments or fixed values, and only one is an equality.
+fn opposed(rules: &RuleBlock, rule: usize, other: usize, k: usize) -> bool
+    requires { ⌜ (rule + ruleSize ≤ ruleSetSize) × (other + ruleSize ≤ ruleSetSize) × (k < pureCount (now rules) rule) × (pureCount (now rules) rule ≤ 8) ⌝ }
+    ensures { λ (r : Bool). ⌜ (r ≡ true → Opposed (now (rules .entry)) rule other k) ⌝ }
 {
-    let arity = head_arity(rules, rule);
-    if pure_count(rules, rule) != 0 {
-        if pure_count(rules, other) != 0 {
-            if same_terms(rules, rule, other) {
-                if shared(pure_left(rules, rule, 0), arity) {
-                    if shared(pure_right(rules, rule, 0), arity) {
-                        return kinds_differ(rules, rule, other);
-                    }
+    if k < pure_count(rules, other) {
+        if kinds_differ(rules, rule, other, k) {
+            if same_terms(rules, rule, other, k) {
+                let arity = head_arity(rules, rule);
+                if shared(pure_left(rules, rule, k), arity) {
+                    return shared(pure_right(rules, rule, k), arity);
                 }
             }
         }
@@ -85,15 +83,24 @@ fn opposed(rules: &RuleBlock, rule: usize, other: usize) -> bool
     false
 }
 
-// Whether two rules are told apart at a glance: by their predicates, or by their first conditions, as most books do it.
+// Whether two rules are told apart at a glance: by their predicates, or by conditions of one number that are opposed. Most books keep their
+// rules apart in this way.
 fn parted(rules: &RuleBlock, rule: usize, other: usize) -> bool
-    requires { ⌜ (rule + ruleSize ≤ ruleSetSize) × (other + ruleSize ≤ ruleSetSize) ⌝ }
+    requires { ⌜ (rule + ruleSize ≤ ruleSetSize) × (other + ruleSize ≤ ruleSetSize) × (pureCount (now rules) rule ≤ 8) ⌝ }
     ensures { λ (r : Bool). ⌜ Parted (now (rules .entry)) rule other r ⌝ }
 {
-    if head(rules, rule) == head(rules, other) {
-        return opposed(rules, rule, other);
+    if head(rules, rule) != head(rules, other) {
+        return true;
     }
-    true
+    let count = pure_count(rules, rule);
+    let mut k = 0;
+    while k < count {
+        if opposed(rules, rule, other, k) {
+            return true;
+        }
+        k += 1;
+    }
+    false
 }
 
 // Whether some values meet the conditions of both rules; the classes are those of the first rule.
@@ -137,7 +144,7 @@ fn excludes(
     true
 }
 
-// Whether rule r and each rule from the first on exclude each other.
+// Whether rule r and each rule from the first on exclude each other. A rule that nothing meets excludes every other.
 fn excludes_from(rules: &RuleBlock, r: usize, first: usize, given: &QueryBlock) -> bool
     requires { ⌜ RulesReadable (now given) (now rules) × (r < ruleCount (now rules)) × (first ≤ ruleCount (now rules)) ⌝ }
     ensures { λ (told : Bool). ⌜ Told told (ExcludesFrom (ruleSetRead (now (given .entry)) (now (rules .entry))) r first) ⌝ }
@@ -146,12 +153,14 @@ fn excludes_from(rules: &RuleBlock, r: usize, first: usize, given: &QueryBlock) 
     let rule = rule_place(r);
     let mut classes = fresh();
     if merge(rules, rule, ALL, &mut classes, given) {
-        let mut other = first;
-        while other < count {
-            if excludes(rules, rule, rule_place(other), &classes, given) {
-                other += 1;
-            } else {
-                return false;
+        if apart(rules, rule, ALL, &classes, given) {
+            let mut other = first;
+            while other < count {
+                if excludes(rules, rule, rule_place(other), &classes, given) {
+                    other += 1;
+                } else {
+                    return false;
+                }
             }
         }
     }

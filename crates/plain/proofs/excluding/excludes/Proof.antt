@@ -6,7 +6,7 @@ use Rattle.plain.proofs.excluding.excludes.Statement.{statement}
 use Rattle.plain.proofs.excluding.excludes.Tie as tie
 
 parted-requires : tie.Need-parted-requires
-parted-requires c κs = (c .pre .1 .formed .inside, c .pre .2 .formed .inside)
+parted-requires c κs = (c .pre .1 .formed .inside, c .pre .2 .formed .inside, c .pre .1 .formed .ready .pures-few)
 
 returns : tie.Need-returns
 returns c =

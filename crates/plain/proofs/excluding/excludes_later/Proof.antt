@@ -41,7 +41,9 @@ other-place c =
     placed (l .before .before .before .pre .0) (l .loop .other) (c .rule-place2 .result) (below c) (c .rule-place2 .ensures)
 
 parted-requires : tie.Need-parted-requires Inv-loop μ-loop
-parted-requires c κs = (own-place (c .before .before .before) .formed .inside, other-place c .formed .inside)
+parted-requires c κs =
+    let own = own-place (c .before .before .before) .formed in
+    (own .inside, other-place c .formed .inside, own .ready .pures-few)
 
 loop-again : tie.Need-loop-again Inv-loop μ-loop
 loop-again c =
