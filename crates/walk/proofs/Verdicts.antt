@@ -4,7 +4,7 @@ use mathlib.Core.{Option.Option, Option.some, Option.Option·none-ne-some, Optio
 use Prim.Native.Nat.{ℕ, _-_, _^_, _<_}
 use native.Mathlib.Omega.{arith}
 use lib.ListN.{length, getD, take}
-use Rattle.semantics.specs.{Lists._among_, Reader.accepted, Refusals.notPlain, Walk.refusalWalkReply, Formats.ladder, Formats.WellFormedInput, Plain.Plain, Walk.Walks, Heap.wholeOf, WalkOutcome.WalkOutcome}
+use Rattle.semantics.specs.{Lists._among_, Reader.accepted, Refusals.notPlain, Walk.refusalWalkReply, Formats.ladder, Formats.WellFormedInput, Plain.Plain, Walk.Walks, Heap.wholeOf, WalkOutcome.WalkOutcome, declared.WalkReply.WalkReply}
 use Rattle.semantics.proofs.{Coding.spot, FormatsFacts.ladder-values, WalkVerdict.Ends, WalkVerdict.outcome-walks}
 use Rattle.block.specs.Layout.{inputIn, ruleSetAs, ruleSetRead, fixedIn, constantsIn, heapIn, ruleSetSize, predicateCount, arityIn, recordCount, queryPredicate, queryValues}
 use Rattle.block.proofs.{HeapInBlock.heap-count, InputInBlock.valid, InputInBlock.constants-few, RuleAs.predicates-are, RuleAs.arity-is}
@@ -29,9 +29,9 @@ module _ (rules heap query : List ℕ) (h : WellFormedInput (inputIn rules heap 
   readable long fit = record { rules-long = long; rules-read = rules-readable fit; heap-formed = valid rules heap query h .heap-formed }
 
   -- a rule set that is not plain
-  pub refuses : ¬ Plain (ruleSetRead query rules) → Walks (inputIn rules heap query) (refusalWalkReply notPlain)
+  pub refuses : {r : WalkReply} → ¬ Plain (ruleSetRead query rules) → r ≡ refusalWalkReply notPlain → Walks (inputIn rules heap query) r
   unfolding inputIn
-  refuses n = Walks.not-plain n refl
+  refuses n e = Walks.not-plain n e
 
   pub named : queryPredicate query < predicateCount rules
   unfolding inputIn

@@ -28,7 +28,7 @@ ghost use Prim.Native.Nat.{_-_, _^_, _≤_};
 ghost use lib.ListN.{length, take};
 ghost use Rattle.semantics.specs.Formats.{WellFormedInput};
 ghost use Rattle.semantics.specs.Plain.{Plain};
-ghost use Rattle.semantics.specs.Walk.{Walks, Walked};
+ghost use Rattle.semantics.specs.Walk.{refusalWalkReply, Walks, Walked};
 ghost use Rattle.words.specs.Told.{Told};
 ghost use Rattle.block.specs.Layout.{inputIn, ruleSetRead, ruleSetSize};
 ghost use Rattle.finding.specs.Values.{Counted};
@@ -49,6 +49,16 @@ pub struct Choice {
 
 // One more than the records that a heap may have.
 const FUEL: usize = 17;
+
+// The reply of a refusal: the other number is 0.
+fn refuse(n: u64) -> WalkReply
+    ensures { λ r. ⌜ r ≡ refusalWalkReply n ⌝ }
+{
+    WalkReply {
+        refusal: n,
+        verdict: 0,
+    }
+}
 
 // Up to four values as the first entries, and zeros.
 fn arguments_of(given: &[u32]) -> Values
@@ -100,10 +110,7 @@ fn respond(rules: &RuleBlock, heap: &HeapBlock, query: &QueryBlock) -> WalkReply
             verdict: verdict(rules, heap, query),
         };
     }
-    WalkReply {
-        refusal: NOT_PLAIN,
-        verdict: 0,
-    }
+    refuse(NOT_PLAIN)
 }
 
 // The walk: what the reader refuses, or the answer.
@@ -114,10 +121,7 @@ pub fn walk(book: &[u8], snapshot: &[u8], question: &[u8]) -> WalkReply
     let mut heap = [0u32; HEAP_SIZE];
     let mut query = [0u32; QUERY_SIZE];
     match formats::read(book, snapshot, question, &mut rules, &mut heap, &mut query) {
-        Ladder::Refused(n) => WalkReply {
-            refusal: n as u64,
-            verdict: 0,
-        },
+        Ladder::Refused(n) => refuse(n as u64),
         Ladder::Accepted => respond(&rules, &heap, &query),
     }
 }

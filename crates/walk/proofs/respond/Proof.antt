@@ -1,4 +1,5 @@
 -- `respond` asks whether the rule set is plain, and leaves the rest to `verdict`.
+use borrow.Author.Needs.{needs}
 use Rattle.walk.proofs.Verdicts.{rules-readable, refuses}
 use Rattle.walk.proofs.respond.Statement.{statement}
 use Rattle.walk.proofs.respond.Tie as tie
@@ -14,9 +15,9 @@ returns c = c .verdict .ensures
 
 returns-2 : tie.Need-returns-2
 returns-2 c =
-    let s : tie.Start = c .before .before in
+    let s : tie.Start = c .before .before .before in
     let g = s .args in
-    refuses (g .rules .now) (g .heap .now) (g .query .now) (s .pre .0) (c .before .plain .ensures .not-so (c .if1 .left))
+    refuses (g .rules .now) (g .heap .now) (g .query .now) (s .pre .0) (c .before .before .plain .ensures .not-so (c .before .if1 .left)) (c .refuse .ensures)
 
 pub respond-spec : {M : Type 1} → statement M
-respond-spec = tie.close (tie.spec plain-requires verdict-requires returns returns-2)
+respond-spec = tie.close (tie.spec plain-requires verdict-requires returns (λ c κs. search needs) returns-2)

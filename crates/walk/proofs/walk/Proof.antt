@@ -1,6 +1,5 @@
 -- `walk` meets its contract: what the reader refuses is refused, and what it accepts `respond` answers.
 use borrow.Author.Needs.{needs}
-use mathlib.Core.Path.{refl}
 use native.Mathlib.Omega.{arith}
 use Rattle.formats.proofs.Answers.{is-accepted, well-formed, block-long, unread, answered}
 use Rattle.walk.proofs.Verdicts.{constants-fit}
@@ -19,7 +18,7 @@ respond-requires c κs =
     )
 
 returns : tie.Need-returns
-returns c = unread (c .before .before .before .read .ensures) (c .before .n .given .1) refl
+returns c = unread (c .before .before .before .before .read .ensures) (c .before .before .n .given .1) (c .refuse .ensures)
 
 returns-2 : tie.Need-returns-2
 returns-2 c =
@@ -29,4 +28,5 @@ returns-2 c =
 pub walk-spec : {M : Type 1} → statement M
 walk-spec =
     tie.close
-    (tie.spec (λ c κs. search needs) (λ c. search needs) (λ c. search needs) (λ c. search needs) respond-requires returns returns-2)
+    (tie.spec (λ c κs. search needs) (λ c. search needs) (λ c. search needs) (λ c κs. search needs) (λ c. search needs) respond-requires returns
+    returns-2)
