@@ -1,14 +1,49 @@
--- Three plain rule sets, one of them with constants, and for each of the three conditions a rule set that fails it and keeps the other two.
--- The house book is not plain.
+-- Four plain rule sets, one of them with two calls in a rule and one with constants, and for each of the three conditions a rule set that
+-- fails it and keeps the other two. The house book is not plain.
 use mathlib.Core.{Path._≡_, Path.refl, Path.sym, Path._∙_, Path.subst, Logic.⊎-elim, Logic.by-cases, Logic._≢_}
-use mathlib.Core.List.{List, [], _∷_, cons≢nil, List·Memᴰ·head, List·Memᴰ·tail, List·Memᴰ·cases-cons, List·Memᴰ·not-nil}
+use mathlib.Core.List.{List, [], _∷_, _++_, cons≢nil, List·Memᴰ·head, List·Memᴰ·tail, List·Memᴰ·cases-cons, List·Memᴰ·not-nil}
 use Prim.Native.Nat.{ℕ, zero, suc, _<_}
 use native.Mathlib.{Omega.arith, Decide.decLt}
 use lib.ListN.{length, getD, List·getD-append}
-use Rattle.semantics.specs.{Lists._among_, Tree.Meets, Formats.readRuleSet, Contract.house}
+use Rattle.semantics.specs.{Lists._among_, Tree.valueOf, Tree.Meets, Formats.readRuleSet, Contract.house}
 use Rattle.semantics.specs.Reader.{Result, accepted, refused, times, counted}
-use Rattle.semantics.specs.RuleSet.{Term, var, fixed, unequal, Pure, Rule, RuleSet, ruleOf}
+use Rattle.semantics.specs.RuleSet.{Term, var, fixed, unequal, Pure, Rule, RuleSet, arity, ruleOf}
 use Rattle.semantics.specs.Plain.{Consumes, Consuming, equals, Fixed, AllFixed, VariablesFixed, Allows, Exclude, Exclusive, Plain}
+
+-- ---- lists of one and of two
+
+only : {A : Type 0} (P : A → Type 0) {one : A} → P one → (x : A) → x among one ∷ [] → P x
+only P p x m = ⊎-elim (λ e. subst P (sym e) p) (λ z. absurd (List·Memᴰ·not-nil z)) (List·Memᴰ·cases-cons m)
+
+both : {A : Type 0} (P : A → Type 0) {one other : A} → P one → P other → (x : A) → x among one ∷ other ∷ [] → P x
+both P p q x m = ⊎-elim (λ e. subst P (sym e) p) (λ k. only P q x k) (List·Memᴰ·cases-cons m)
+
+-- ---- rule sets of two rules
+
+exclusive-pair : (ruleSet : RuleSet) → length (ruleSet .rules) ≡ 2 → Exclude ruleSet (ruleOf ruleSet 0) (ruleOf ruleSet 1) → Exclusive ruleSet
+exclusive-pair ruleSet two e i zero l h = absurd (omega arith)
+exclusive-pair ruleSet two e zero (suc zero) l h = e
+exclusive-pair ruleSet two e (suc i) (suc zero) l h = absurd (omega arith)
+exclusive-pair ruleSet two e i (suc (suc j)) l h = absurd (omega arith)
+
+abbrev differs : Term → Term → Pure
+differs left right = record { kind = unequal; left = left; right = right }
+
+-- A term whose value n arguments decide: one of the first n variables, or a fixed value.
+abbrev FromHead : ℕ → Term → Type 0
+FromHead n (var v) = v < n
+FromHead n (fixed x) = Unit {0}
+
+same-value : (arguments b c : List ℕ) (term : Term) → FromHead (length arguments) term → valueOf (arguments ++ b) term ≡ valueOf (arguments ++ c) term
+same-value arguments b c (var v) l = List·getD-append arguments b 0 v l ∙ sym (List·getD-append arguments c 0 v l)
+same-value arguments b c (fixed x) l = refl
+
+-- Two rules exclude each other if one has an equality of such terms, and the other its contrary.
+contrary : (ruleSet : RuleSet) (rule other : Rule) (left right : Term) → FromHead (arity ruleSet (rule .head)) left → FromHead (arity ruleSet (rule .head)) right
+    → equals left right among rule .pures → differs left right among other .pures → Exclude ruleSet rule other
+contrary ruleSet rule other left right l r m k same arguments counted a b =
+    b .meets (differs left right) k
+    (same-value arguments (b .bound) (a .bound) left (rw counted l) ∙ a .meets (equals left right) m ∙ same-value arguments (a .bound) (b .bound) right (rw counted r))
 
 -- ---- list segments
 
@@ -30,14 +65,9 @@ abbrev pub segments : List Pure → RuleSet
 segments pures = record { arities = 2 ∷ []; constants = []; rules = empty ∷ longer pures ∷ [] }
 
 abbrev pub differ : Pure
-differ = record { kind = unequal; left = var 0; right = var 1 }
+differ = differs (var 0) (var 1)
 
 module _ (pures : List Pure) where
-  each : (P : Rule → Type 0) → P empty → P (longer pures) → (rule : Rule) → rule among segments pures .rules → P rule
-  each P p q rule m =
-      ⊎-elim (λ e. subst P (sym e) p)
-      (λ k. ⊎-elim (λ e. subst P (sym e) q) (λ z. absurd (List·Memᴰ·not-nil z)) (List·Memᴰ·cases-cons k)) (List·Memᴰ·cases-cons m)
-
   longer-fixed : AllFixed (segments pures) (longer pures)
   longer-fixed v h =
       by-cases (decLt v 2) (λ l. Fixed.of-head l)
@@ -48,38 +78,63 @@ module _ (pures : List Pure) where
 -- A segment that ends where its end is first met is plain.
 pub segment-plain : Plain (segments (differ ∷ []))
 segment-plain = record {
-  consuming = each (differ ∷ []) Consumes (λ h. absurd (h refl)) (λ h e. cons≢nil e);
-  all-fixed = each (differ ∷ []) (AllFixed (segments (differ ∷ []))) (λ v h. Fixed.of-head (omega arith)) (longer-fixed (differ ∷ []));
-  exclusive = apart;
+  consuming = both Consumes (λ h. absurd (h refl)) (λ h e. cons≢nil e);
+  all-fixed = both (AllFixed (segments (differ ∷ []))) (λ v h. Fixed.of-head (omega arith)) (longer-fixed (differ ∷ []));
+  exclusive =
+      exclusive-pair (segments (differ ∷ [])) refl
+      (contrary (segments (differ ∷ [])) empty (longer (differ ∷ [])) (var 0) (var 1) (omega arith) (omega arith) (List·Memᴰ·head refl) (List·Memᴰ·head refl));
 }
-  where
-    never : (arguments : List ℕ) → length arguments ≡ 2 → Allows empty arguments → ¬ Allows (longer (differ ∷ [])) arguments
-    never arguments counted a b =
-        b .meets differ (List·Memᴰ·head refl)
-        (List·getD-append arguments (b .bound) 0 0 (omega arith) ∙ sym (List·getD-append arguments (a .bound) 0 0 (omega arith))
-        ∙ a .meets (equals (var 0) (var 1)) (List·Memᴰ·head refl)
-        ∙ List·getD-append arguments (a .bound) 0 1 (omega arith) ∙ sym (List·getD-append arguments (b .bound) 0 1 (omega arith)))
-
-    apart : (i j : ℕ) → i < j → j < 2 → Exclude (segments (differ ∷ [])) (ruleOf (segments (differ ∷ [])) i) (ruleOf (segments (differ ∷ [])) j)
-    apart i zero l h = absurd (omega arith)
-    apart zero (suc zero) l h = λ e arguments counted. never arguments counted
-    apart (suc i) (suc zero) l h = absurd (omega arith)
-    apart i (suc (suc j)) l h = absurd (omega arith)
 
 -- One that may go on past its end is not: both rules are met where the arguments are equal. The other conditions it keeps.
 pub overlapping-alone : Consuming (segments []) × VariablesFixed (segments []) × (¬ Exclusive (segments []))
 overlapping-alone = (
-  each [] Consumes (λ h. absurd (h refl)) (λ h e. cons≢nil e),
-  each [] (AllFixed (segments [])) (λ v h. Fixed.of-head (omega arith)) (longer-fixed []),
+  both Consumes (λ h. absurd (h refl)) (λ h e. cons≢nil e),
+  both (AllFixed (segments [])) (λ v h. Fixed.of-head (omega arith)) (longer-fixed []),
   λ exclusive.
       exclusive 0 1 (omega arith) (omega arith) refl (0 ∷ 0 ∷ []) refl
       (record {
         bound = [];
         bound-counted = refl;
-        meets = λ pure m. ⊎-elim (λ e. subst (Meets (0 ∷ 0 ∷ [])) (sym e) refl) (λ z. absurd (List·Memᴰ·not-nil z)) (List·Memᴰ·cases-cons m);
+        meets = only (Meets (0 ∷ 0 ∷ [])) refl;
       })
       (record { bound = 0 ∷ []; bound-counted = refl; meets = λ pure m. absurd (List·Memᴰ·not-nil m) }),
 )
+
+-- ---- binary trees
+
+-- The empty tree, at nil.
+abbrev leaf : Rule
+leaf = record { head = 0; bound = 0; pures = equals (var 0) (fixed 0) ∷ []; points-to = []; calls = [] }
+
+-- A record that points to two trees.
+abbrev fork : Rule
+fork = record {
+  head = 0;
+  bound = 2;
+  pures = differs (var 0) (fixed 0) ∷ [];
+  points-to = record { address = 0; fields = var 1 ∷ var 2 ∷ [] } ∷ [];
+  calls = record { predicate = 0; arguments = var 1 ∷ [] } ∷ record { predicate = 0; arguments = var 2 ∷ [] } ∷ [];
+}
+
+abbrev pub trees : RuleSet
+trees = record { arities = 1 ∷ []; constants = []; rules = leaf ∷ fork ∷ [] }
+
+-- The address is nil or not, and fixes both fields.
+pub tree-plain : Plain trees
+tree-plain = record {
+  consuming = both Consumes (λ h. absurd (h refl)) (λ h e. cons≢nil e);
+  all-fixed = both (AllFixed trees) (λ v h. Fixed.of-head (omega arith)) fork-fixed;
+  exclusive = exclusive-pair trees refl (contrary trees leaf fork (var 0) (fixed 0) (omega arith) tt (List·Memᴰ·head refl) (List·Memᴰ·head refl));
+}
+  where
+    address : Fixed trees fork (var 0)
+    address = Fixed.of-head {v = 0} (omega arith)
+
+    fork-fixed : AllFixed trees fork
+    fork-fixed zero h = address
+    fork-fixed (suc zero) h = Fixed.of-field (List·Memᴰ·head refl) (List·Memᴰ·head refl) address
+    fork-fixed (suc (suc zero)) h = Fixed.of-field (List·Memᴰ·head refl) (List·Memᴰ·tail (List·Memᴰ·head refl)) address
+    fork-fixed (suc (suc (suc v))) h = absurd (omega arith)
 
 -- ---- rules of two predicates
 
@@ -104,14 +159,9 @@ pub kinds-plain : Plain kinds
 kinds-plain = record {
   consuming = both Consumes (λ h e. cons≢nil e) (λ h. absurd (h refl));
   all-fixed = both (AllFixed kinds) tied-fixed (λ v h. Fixed.of-head (omega arith));
-  exclusive = apart;
+  exclusive = exclusive-pair kinds refl (λ e. absurd (omega (arith, e)));
 }
   where
-    both : (P : Rule → Type 0) → P tied → P bare → (rule : Rule) → rule among kinds .rules → P rule
-    both P p q rule m =
-        ⊎-elim (λ e. subst P (sym e) p)
-        (λ k. ⊎-elim (λ e. subst P (sym e) q) (λ z. absurd (List·Memᴰ·not-nil z)) (List·Memᴰ·cases-cons k)) (List·Memᴰ·cases-cons m)
-
     address : Fixed kinds tied (var 1)
     address = Fixed.to-left (List·Memᴰ·head refl) (Fixed.of-head {v = 0} (omega arith))
 
@@ -125,12 +175,6 @@ kinds-plain = record {
     tied-fixed (suc (suc (suc zero))) h = field
     tied-fixed (suc (suc (suc (suc zero)))) h = Fixed.to-right (List·Memᴰ·tail (List·Memᴰ·tail (List·Memᴰ·head refl))) field
     tied-fixed (suc (suc (suc (suc (suc v))))) h = absurd (omega arith)
-
-    apart : (i j : ℕ) → i < j → j < 2 → Exclude kinds (ruleOf kinds i) (ruleOf kinds j)
-    apart i zero l h = absurd (omega arith)
-    apart zero (suc zero) l h = λ e. absurd (omega (arith, e))
-    apart (suc i) (suc zero) l h = absurd (omega arith)
-    apart i (suc (suc j)) l h = absurd (omega arith)
 
 -- ---- two constants, each the only argument of a rule, which has a record that holds the constant
 
@@ -148,9 +192,7 @@ codes x y = record { arities = 1 ∷ []; constants = x ∷ y ∷ []; rules = cod
 
 module _ (x y : ℕ) where
   each-coded : (P : Rule → Type 0) → ((code : ℕ) → P (coded code)) → (rule : Rule) → rule among codes x y .rules → P rule
-  each-coded P p rule m =
-      ⊎-elim (λ e. subst P (sym e) (p x))
-      (λ k. ⊎-elim (λ e. subst P (sym e) (p y)) (λ z. absurd (List·Memᴰ·not-nil z)) (List·Memᴰ·cases-cons k)) (List·Memᴰ·cases-cons m)
+  each-coded P p = both P (p x) (p y)
 
   codes-consume : Consuming (codes x y)
   codes-consume = each-coded Consumes (λ code h. absurd (h refl))
@@ -170,13 +212,11 @@ module _ (x y : ℕ) where
 
   -- Two different constants are unequal.
   pub codes-plain : x ≢ y → Plain (codes x y)
-  codes-plain differ = record { consuming = codes-consume; all-fixed = codes-fixed; exclusive = apart }
-    where
-      apart : (i j : ℕ) → i < j → j < 2 → Exclude (codes x y) (ruleOf (codes x y) i) (ruleOf (codes x y) j)
-      apart i zero l h = absurd (omega arith)
-      apart zero (suc zero) l h = λ e arguments counted a b. differ (sym (code-met x arguments counted a) ∙ code-met y arguments counted b)
-      apart (suc i) (suc zero) l h = absurd (omega arith)
-      apart i (suc (suc j)) l h = absurd (omega arith)
+  codes-plain differ = record {
+    consuming = codes-consume;
+    all-fixed = codes-fixed;
+    exclusive = exclusive-pair (codes x y) refl (λ e arguments counted a b. differ (sym (code-met x arguments counted a) ∙ code-met y arguments counted b));
+  }
 
 -- Only their values matter: the same constant twice is one.
 pub codes-alone : (x : ℕ) → Consuming (codes x x) × VariablesFixed (codes x x) × (¬ Exclusive (codes x x))
@@ -190,19 +230,13 @@ codes-alone x = (
     allowed = record {
       bound = x ∷ [];
       bound-counted = refl;
-      meets = λ pure m.
-          ⊎-elim (λ e. subst (Meets (x ∷ x ∷ [])) (sym e) refl)
-          (λ k. ⊎-elim (λ e. subst (Meets (x ∷ x ∷ [])) (sym e) refl) (λ z. absurd (List·Memᴰ·not-nil z)) (List·Memᴰ·cases-cons k))
-          (List·Memᴰ·cases-cons m);
+      meets = both (Meets (x ∷ x ∷ [])) refl refl;
     }
 
 -- ---- rule sets of one rule, for a predicate with one argument
 
 abbrev pub single : Rule → RuleSet
 single rule = record { arities = 1 ∷ []; constants = []; rules = rule ∷ [] }
-
-only : (P : Rule → Type 0) (rule : Rule) → P rule → (other : Rule) → other among rule ∷ [] → P other
-only P rule p other m = ⊎-elim (λ e. subst P (sym e) p) (λ z. absurd (List·Memᴰ·not-nil z)) (List·Memᴰ·cases-cons m)
 
 -- One whose bound variable stands nowhere.
 abbrev pub loose : Rule
@@ -222,7 +256,7 @@ loose-fixed (Fixed.of-field m k f) = absurd (List·Memᴰ·not-nil m)
 
 pub loose-alone : Consuming (single loose) × (¬ VariablesFixed (single loose)) × Exclusive (single loose)
 loose-alone = (
-  only Consumes loose (λ h. absurd (h refl)),
+  only Consumes (λ h. absurd (h refl)),
   λ fixes. omega (arith, loose-fixed (fixes loose (List·Memᴰ·head refl) 1 (omega arith))),
   λ i j l h. absurd (omega arith),
 )
@@ -234,7 +268,7 @@ endless = record { head = 0; bound = 0; pures = []; points-to = []; calls = reco
 pub endless-alone : (¬ Consuming (single endless)) × VariablesFixed (single endless) × Exclusive (single endless)
 endless-alone = (
   λ consuming. consuming endless (List·Memᴰ·head refl) (λ e. cons≢nil e) refl,
-  only (AllFixed (single endless)) endless (λ v h. Fixed.of-head (omega arith)),
+  only (AllFixed (single endless)) (λ v h. Fixed.of-head (omega arith)),
   λ i j l h. absurd (omega arith),
 )
 
