@@ -1,3 +1,4 @@
+pub mod Exchange
 pub mod GivenValues
 pub mod HeapInBlock
 pub mod InputInBlock
