@@ -48,7 +48,7 @@ pub fn several(dice: &mut Dice, book: &Book, most: usize) -> Book {
 }
 
 /// Some rule, its variables, and how many constants there are.
-fn rule<'a>(dice: &mut Dice, book: &'a mut Book) -> Option<(&'a mut Rule, u8, usize)> {
+pub fn rule<'a>(dice: &mut Dice, book: &'a mut Book) -> Option<(&'a mut Rule, u8, usize)> {
     if book.rules.is_empty() {
         return None;
     }
@@ -66,7 +66,7 @@ fn condition<'a>(dice: &mut Dice, rule: &'a mut Rule, kind: Option<u8>) -> Optio
     (!pures.is_empty()).then(|| pures.swap_remove(chosen))
 }
 
-fn term(dice: &mut Dice, variables: u8, constants: usize) -> u8 {
+pub fn term(dice: &mut Dice, variables: u8, constants: usize) -> u8 {
     match variables {
         0 => generate::fixed_term(dice, constants),
         _ if dice.chance(30) => generate::fixed_term(dice, constants),
@@ -193,7 +193,7 @@ fn other_field(dice: &mut Dice, book: &mut Book) -> Option<()> {
     Some(())
 }
 
-fn call_more(dice: &mut Dice, book: &mut Book) -> Option<()> {
+pub fn call_more(dice: &mut Dice, book: &mut Book) -> Option<()> {
     let predicate = dice.below(book.arities.len());
     let arity = book.arities[predicate];
     let (rule, variables, constants) = rule(dice, book)?;

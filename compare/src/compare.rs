@@ -527,6 +527,13 @@ impl Comparer {
         self.program_replies(&[&input.bench_bytes()], reply);
     }
 
+    /// The same for an input with a reply for the longest table, asked there alone.
+    pub fn kept_long(&mut self, input: &Input, reply: Reply, print: u64) {
+        self.lend_both(input, Sizes::of(MOST_LINES), reply, Table::Kept(print));
+        self.walk(input, Some(reply));
+        self.counted();
+    }
+
     /// The bench program, by what it prints.
     pub fn program(&mut self, bytes: &[u8]) {
         self.program_in_pieces(&[bytes]);

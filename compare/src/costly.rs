@@ -1,11 +1,16 @@
 //! Inputs made to cost time.
 
+use crate::climbed;
 use crate::input::*;
 use crate::nil::{self, END_MARK, LARGEST};
 use crate::random::Dice;
 use crate::shapes;
 
 pub fn made() -> Vec<(&'static str, Input)> {
+    [by_hand(), climbed::made()].concat()
+}
+
+fn by_hand() -> Vec<(&'static str, Input)> {
     vec![
         ("unequal-only", unequal_only()),
         ("unequal-all-pairs", unequal_all_pairs()),
@@ -392,8 +397,9 @@ fn tree_by_constants() -> Input {
     Input::new(&book, &heap, &Query::new(0, &[1, ODD[0]]))
 }
 
-/// Random inputs that took the reference longest.
-fn found([book, snapshot, question]: [&str; 3]) -> Input {
+/// An input that was found, in hex. Those here are the random ones that took the
+/// reference longest.
+pub fn found([book, snapshot, question]: [&str; 3]) -> Input {
     let bytes = |text| from_hex(text).expect("it is hex");
     Input {
         book: bytes(book),

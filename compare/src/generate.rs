@@ -98,7 +98,8 @@ pub fn fixed_term(dice: &mut Dice, constants: usize) -> u8 {
     }
 }
 
-fn rule(
+/// With so many constants; one to start from has no calls.
+pub fn rule(
     dice: &mut Dice,
     size: Size,
     arities: &[u8],

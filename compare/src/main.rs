@@ -5,6 +5,10 @@ mod bench;
 mod books;
 mod chains;
 mod changes;
+mod climb;
+mod climb_test;
+mod climbed;
+mod climber;
 mod compare;
 mod constant_books;
 mod constant_use;
@@ -18,9 +22,11 @@ mod generate;
 mod grow;
 mod hostile;
 mod input;
+mod interrupt;
 mod judge;
 mod lent;
 mod links;
+mod long;
 mod mutate;
 mod nearly;
 mod nil;
@@ -34,12 +40,16 @@ mod plain_test;
 mod plainness;
 mod pools;
 mod random;
+mod readback;
 mod selftest;
 mod shapes;
 mod sizes;
 mod small;
 mod spellings;
 mod split;
+mod starts;
+mod steps;
+mod stopwatch;
 mod strangers;
 mod tally;
 mod trying;
@@ -62,6 +72,7 @@ const USAGE: &str = "usage: compare [--seed N] [--long [COUNT | SECONDSs]] [--th
        compare --once POOL proved|lent|part|reference|walk|reference_walk
        compare --input [--lent LINES WORDS] [--dirt N] [--part N]
                BOOK SNAPSHOT QUESTION [UNFOLDING]   (in hex, - for none)
+       compare --climb SECONDS [--seed N] [--lines N] [--above MILLISECONDS] [--out FOLDER]
        compare --self-test
        compare --write-hostile";
 
@@ -92,7 +103,9 @@ fn main() -> ExitCode {
         Some((&"--input", words)) => again::run(words).is_some(),
         Some((&"--self-test", [])) => return ExitCode::from(!selftest::run() as u8),
         Some((&"--write-hostile", [])) => hostile::write().is_ok(),
+        Some((&"--climb", words)) => climb::run(words, seed_of_the_hour()).is_some(),
         Some((&patience::OPTION, [lines])) => patience::attempt(lines).is_some(),
+        Some((&stopwatch::OPTION, [lines])) => stopwatch::serve(lines).is_some(),
         _ => match options(&words) {
             Some(options) => return compare_all(options),
             None => false,

@@ -203,6 +203,11 @@ fn hostile_inputs(comparer: &mut Comparer, _: &mut Dice) {
             comparer.kept(&kept.input, kept.reply, kept.print);
         }
     }
+    for kept in hostile::kept_long().expect("the kept inputs are read") {
+        if comparer.takes_turn() {
+            comparer.kept_long(&kept.input, kept.reply, kept.print);
+        }
+    }
 }
 
 /// Every size of lent memory for a few pools, with faults too.

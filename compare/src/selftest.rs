@@ -2,6 +2,7 @@
 //! program, each altered in one thing, must all be called wrong.
 
 use crate::books;
+use crate::climb_test;
 use crate::constants_test;
 use crate::input::{Heap, Input, Query};
 use crate::judge::{self, Expected, Table};
@@ -418,6 +419,7 @@ pub fn run() -> bool {
     missed.extend(by_nil);
     let (by_plain, of_plain) = plain_test::missed();
     missed.extend(by_plain);
+    missed.extend(climb_test::missed());
     let by_hand = [books::small(), books::plain()].concat();
     if by_hand
         .iter()
