@@ -64,7 +64,7 @@ fn remembering(
     plan(rules, records, n, table, at, space, &mut memory);
 }
 
-// The plan with a memory of 1,021 slots.
+// The plan with a memory of 337 slots.
 fn remembering_more(
     rules: &RuleBlock,
     records: &PlacedHeap,
@@ -76,7 +76,7 @@ fn remembering_more(
     requires { ⌜ Buildable (now rules) (now records) n (now table) at (now space) × ((i : ℕ) → i < at → markAt (now space) i ≡ 0) ⌝ }
     ensures { λ _. ⌜ Plans (now (rules .entry)) (now (records .entry)) n (now (table .entry)) at (now (space .entry)) (now (space .exit)) ⌝ }
 {
-    let mut memory = [0u64; 3063];
+    let mut memory = [0u64; 1011];
     plan(rules, records, n, table, at, space, &mut memory);
 }
 

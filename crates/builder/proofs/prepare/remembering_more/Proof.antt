@@ -6,7 +6,7 @@ use Rattle.builder.proofs.prepare.remembering_more.Statement.{statement
 use Rattle.builder.proofs.prepare.remembering_more.Tie as tie
 
 plan-requires : tie.Need-plan-requires
-plan-requires c κs = let s = c .before .before .before .before .pre in (s .0, s .1, failed-none _ (zeros-at 3063))
+plan-requires c κs = let s = c .before .before .before .before .pre in (s .0, s .1, failed-none _ (zeros-at 1011))
 
 pub remembering-more-spec : {M : Type 1} → statement M
 remembering-more-spec = tie.close (tie.spec (λ c. search needs) plan-requires (λ c. search needs) (λ c. search needs))
