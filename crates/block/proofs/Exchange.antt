@@ -33,8 +33,8 @@ module _ (xs ys : List ℕ) (s j x y : ℕ) (few : j < 5) (room : s + 10 ≤ len
   at_second = get_or-set_same (set ys (s + j) y) (s + 5 + j) x 0 (omega (arith, t.long, length-set ys (s + j) y)) ∙ ex
       ∙ t.rest (s + j) (inr (omega arith)) (inl (omega arith))
 
-  pub traded-more : Traded xs after s (j + 1)
-  traded-more = record {
+  pub traded_more : Traded xs after s (j + 1)
+  traded_more = record {
     long = length-set (set ys (s + j) y) (s + 5 + j) x ∙ length-set ys (s + j) y ∙ t.long;
     first = λ i l. ⊎_elim (λ (e : i ≡ j). subst (λ (k : ℕ). get_or after (s + k) 0 ≡ get_or xs (s + 5 + k) 0) (sym e) at_first)
         (λ (h : i < j). two_other ys (s + j) (s + 5 + j) y x (s + i) (λ e. omega (arith, e)) (λ e. omega (arith, e)) ∙ t.first i h) (eq-or-lt_of_le (omega arith));

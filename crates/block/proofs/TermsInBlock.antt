@@ -27,21 +27,21 @@ module _ (value : ℕ → ℕ) (rules σ : List ℕ) (at n : ℕ) where
   abbrev pub termsAt : List ℕ
   termsAt = values_of σ (map (term_as value) (entries rules at n))
 
-  pub terms-are : termsAt ≡ tabulate n term_at
-  terms-are = ap (values_of σ) (tabulate-map (term_as value) n (λ j. get_or rules (at + j) 0)) ∙ tabulate-map (value_of σ) n (λ j. term_as value (get_or rules (at + j) 0))
+  pub terms_are : termsAt ≡ tabulate n term_at
+  terms_are = ap (values_of σ) (tabulate-map (term_as value) n (λ j. get_or rules (at + j) 0)) ∙ tabulate-map (value_of σ) n (λ j. term_as value (get_or rules (at + j) 0))
 
-  pub fields-are : (records : List ℕ) (place : ℕ) → (entries records place n ≡ termsAt) ↔ ((j : ℕ) → j < n → get_or records (place + j) 0 ≡ term_at j)
-  fields-are records place = (
-    (λ e j h. sym (tabulate_at n (λ i. get_or records (place + i) 0) 0 j h) ∙ ap (λ (l : List ℕ). get_or l j 0) (e ∙ terms-are) ∙ tabulate_at n term_at 0 j h),
-    λ h. tabulate_same n (λ j. get_or records (place + j) 0) term_at h ∙ sym terms-are,
+  pub fields_are : (records : List ℕ) (place : ℕ) → (entries records place n ≡ termsAt) ↔ ((j : ℕ) → j < n → get_or records (place + j) 0 ≡ term_at j)
+  fields_are records place = (
+    (λ e j h. sym (tabulate_at n (λ i. get_or records (place + i) 0) 0 j h) ∙ ap (λ (l : List ℕ). get_or l j 0) (e ∙ terms_are) ∙ tabulate_at n term_at 0 j h),
+    λ h. tabulate_same n (λ j. get_or records (place + j) 0) term_at h ∙ sym terms_are,
   )
 
   -- the value of argument j of a call, and 0 past the last
-  pub argument-at : (j : ℕ) → j < n → term_at j ≡ get_or termsAt j 0
-  argument-at j h = sym (ap (λ (l : List ℕ). get_or l j 0) terms-are ∙ tabulate_at n term_at 0 j h)
+  pub argument_at : (j : ℕ) → j < n → term_at j ≡ get_or termsAt j 0
+  argument_at j h = sym (ap (λ (l : List ℕ). get_or l j 0) terms_are ∙ tabulate_at n term_at 0 j h)
 
-  pub argument-past : (j : ℕ) → n ≤ j → 0 ≡ get_or termsAt j 0
-  argument-past j h = sym (get_or-eq_default termsAt 0 (omega (arith, ap length terms-are, tabulate-length n term_at)))
+  pub argument_past : (j : ℕ) → n ≤ j → 0 ≡ get_or termsAt j 0
+  argument_past j h = sym (get_or-eq_default termsAt 0 (omega (arith, ap length terms_are, tabulate-length n term_at)))
 
 -- ---- a record
 
@@ -53,15 +53,15 @@ module _ (value : ℕ → ℕ) (rules : List ℕ) (rule g : ℕ) (σ records : L
   pub address-asked : AsAsked → record_address records i ≡ get_or σ (atom_address rules rule g) 0
   address-asked e = ap (λ (r : Record). r.address) e
 
-  pub size-asked : AsAsked → record_size records i ≡ atom_size rules rule g
-  size-asked e =
+  pub size_asked : AsAsked → record_size records i ≡ atom_size rules rule g
+  size_asked e =
       sym (tabulate-length (record_size records i) (record_field records i))
-      ∙ ap (λ (r : Record). length r.fields) e ∙ ap length (terms-are value rules σ (atom_place rule g + 2) (atom_size rules rule g))
+      ∙ ap (λ (r : Record). length r.fields) e ∙ ap length (terms_are value rules σ (atom_place rule g + 2) (atom_size rules rule g))
       ∙ tabulate-length (atom_size rules rule g) (λ j. value_of σ (term_as value (atom_field rules rule g j)))
 
-  pub record-told : {r : Bool} → record_address records i ≡ get_or σ (atom_address rules rule g) 0 → record_size records i ≡ atom_size rules rule g
+  pub record_told : {r : Bool} → record_address records i ≡ get_or σ (atom_address rules rule g) 0 → record_size records i ≡ atom_size rules rule g
       → Told r (entries records (record_place i + 2) (atom_size rules rule g) ≡ termsAt value rules σ (atom_place rule g + 2) (atom_size rules rule g)) → Told r AsAsked
-  record-told a c t =
+  record_told a c t =
       told_as
       (λ f. ap₂ (λ (x : ℕ) (xs : List ℕ). record { address = x; fields = xs }) a (ap (entries records (record_place i + 2)) c ∙ f))
       (λ q. ap (entries records (record_place i + 2)) (sym c) ∙ ap (λ (x : Record). x.fields) q)
@@ -71,12 +71,12 @@ module _ (value : ℕ → ℕ) (rules : List ℕ) (rule g : ℕ) (σ records : L
 
 module _ (value : ℕ → ℕ) (rules : List ℕ) (rule k : ℕ) (σ : List ℕ) {kind a b : ℕ} (is-kind : kind ≡ pure_kind rules rule k)
     (is-left : a ≡ value_of σ (term_as value (pure_left rules rule k))) (is_right : b ≡ value_of σ (term_as value (pure_right rules rule k))) where
-  pub pure-equal : kind ≡ 0 → Told (eqb a b) (Meets σ (pure_as value rules (pure_place rule k)))
-  pure-equal e =
+  pub pure_equal : kind ≡ 0 → Told (eqb a b) (Meets σ (pure_as value rules (pure_place rule k)))
+  pure_equal e =
       let compares : Compare (kind_in (pure_kind rules rule k)) a b ≡ (a ≡ b) = rw (eq-eqb (pure_kind rules rule k) 0 (sym is-kind ∙ e), Compare) refl in
       rw (← is-left, ← is_right, compares) (told_equal a b (λ s. s) (λ s. s))
 
-  pub pure-unequal : kind ≢ 0 → Told (not (eqb a b)) (Meets σ (pure_as value rules (pure_place rule k)))
-  pure-unequal n =
+  pub pure_unequal : kind ≢ 0 → Told (not (eqb a b)) (Meets σ (pure_as value rules (pure_place rule k)))
+  pure_unequal n =
       let compares : Compare (kind_in (pure_kind rules rule k)) a b ≡ (a ≢ b) = rw (ne_eqb (pure_kind rules rule k) 0 (λ e. n (is-kind ∙ e)), Compare) refl in
       rw (← is-left, ← is_right, compares) (told_unequal a b)

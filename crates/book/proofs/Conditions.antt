@@ -10,7 +10,7 @@ use Rattle.block.specs.Layout.{term_as, fixed_in, constants_in, first_rule}
 use Rattle.reader.specs.Layout.{Fills, many}
 use Rattle.book.specs.BookLayout.{count_layout, name_layout, term_layout, pure_layout, atom_layout, Header, arities_in, call_layout}
 use Rattle.reader.specs.declared.Cursor.{Cursor}
-use Rattle.book.proofs.{Heading.arities_length, Heading.name-small, Heading.arity_few, Heading.arity-read, Naming.kind_read}
+use Rattle.book.proofs.{Heading.arities_length, Heading.name_small, Heading.arity_few, Heading.arity_read, Naming.kind_read}
 use Rattle.reader.proofs.{Chain.chain, Chain.done, Chain.turn, Counting.counted_read, Keep.kept_both, Section.ones}
 
 pub pure_fills : (given : List ℕ) (n at : ℕ) {bytes : List ℕ} {c c₁ c₂ c₃ : Cursor} {b b₁ b₂ b₃ : List ℕ} → Fills (name_layout 2) at bytes c b b₁ c₁
@@ -46,11 +46,11 @@ atom_fills given n at {bytes} {c₃ = c₃} {b} {b₁} {b₂} {b₃} name count 
 pub call_fills : (given : List ℕ) (n at : ℕ) {bytes : List ℕ} {c c₁ c₂ : Cursor} {b b₁ b₂ : List ℕ} → Header b → first_rule ≤ at → Fills (name_layout (get_or b 0 0)) at bytes c b b₁ c₁
     → Fills (many (get_or b₁ (8 + get_or b₁ at 0) 0) (term_layout given n)) (at + 1) bytes c₁ b₁ b₂ c₂ → Fills (call_layout (arities_in b) given n) at bytes c b b₂ c₂
 call_fills given n at {bytes} {c₂ = c₂} {b} {b₁} {b₂} header low name arguments =
-    let p : get_or b₁ at 0 < get_or b 0 0 = name-small at header low name in
+    let p : get_or b₁ at 0 < get_or b 0 0 = name_small at header low name in
     let e : get_or b₂ at 0 ≡ get_or b₁ at 0 = arguments.kept.same at (inl (omega arith)) in
     let m : get_or b₂ (8 + get_or b₁ at 0) 0 ≡ get_or b₁ (8 + get_or b₁ at 0) 0 = arguments.kept.same (8 + get_or b₁ at 0) (inl (omega (arith, header.few))) in
     let few : get_or b₁ (8 + get_or b₁ at 0) 0 ≤ 4 = arity_few at header low name in
-    let terms = turn (ap (λ (m : ℕ). times m (term (constants_in given) n)) (sym (arity-read at header low name))) arguments.reads in
+    let terms = turn (ap (λ (m : ℕ). times m (term (constants_in given) n)) (sym (arity_read at header low name))) arguments.reads in
     record {
       reads =
           rw (e, m, ← terms_held given b₂ (at + 1) (get_or b₁ (8 + get_or b₁ at 0) 0), arities_length b) (chain _ name.reads (chain _ terms (done bytes c₂ _)));

@@ -19,32 +19,32 @@ arity_at b p l = tabulate_at (get_or b 0 0) (λ (i : ℕ). get_or b (8 + i) 0) 0
 
 -- two blocks with the same number of predicates and the same arities
 module _ (b b' : List ℕ) (e : get_or b' 0 0 ≡ get_or b 0 0) (same : (i : ℕ) → 8 ≤ i → i < 16 → get_or b' i 0 ≡ get_or b i 0) where
-  pub arities-same : get_or b 0 0 ≤ 8 → arities_in b' ≡ arities_in b
-  arities-same few = rw e (entries_same b b' 8 (get_or b 0 0) (λ i l₁ l₂. same i l₁ (omega arith)))
+  pub arities_same : get_or b 0 0 ≤ 8 → arities_in b' ≡ arities_in b
+  arities_same few = rw e (entries_same b b' 8 (get_or b 0 0) (λ i l₁ l₂. same i l₁ (omega arith)))
 
-  pub header-same : Header b → Header b'
-  header-same h = record {
+  pub header_same : Header b → Header b'
+  header_same h = record {
     some = rw e h.some;
     few = rw e h.few;
     each = λ p m. let m' : p < get_or b 0 0 = rw e at m in rw (same (8 + p) (omega arith) (omega (arith, h.few))) (h.each p m');
   }
 
 pub arities_kept : {from to : ℕ} {b b' : List ℕ} → KeptOutside from to b b' → first_rule ≤ from → get_or b 0 0 ≤ 8 → arities_in b' ≡ arities_in b
-arities_kept {b = b} {b' = b'} k l few = arities-same b b' (k.same 0 (inl (omega arith))) (λ i l₁ l₂. k.same i (inl (omega arith))) few
+arities_kept {b = b} {b' = b'} k l few = arities_same b b' (k.same 0 (inl (omega arith))) (λ i l₁ l₂. k.same i (inl (omega arith))) few
 
 pub header_kept : {from to : ℕ} {b b' : List ℕ} → KeptOutside from to b b' → first_rule ≤ from → Header b → Header b'
-header_kept {b = b} {b' = b'} k l h = header-same b b' (k.same 0 (inl (omega arith))) (λ i l₁ l₂. k.same i (inl (omega arith))) h
+header_kept {b = b} {b' = b'} k l h = header_same b b' (k.same 0 (inl (omega arith))) (λ i l₁ l₂. k.same i (inl (omega arith))) h
 
 -- the predicate that a name has just been read for, and its arity
 module _ (at : ℕ) {bytes : List ℕ} {c r : Cursor} {b b' : List ℕ} (header : Header b) (low : first_rule ≤ at) (name : Fills (name_layout (get_or b 0 0)) at bytes c b b' r) where
-  pub name-small : get_or b' at 0 < get_or b 0 0
-  name-small = name.sized header.some
+  pub name_small : get_or b' at 0 < get_or b 0 0
+  name_small = name.sized header.some
 
-  pub arity-kept : get_or b' (8 + get_or b' at 0) 0 ≡ get_or b (8 + get_or b' at 0) 0
-  arity-kept = name.kept.same (8 + get_or b' at 0) (inl (omega (arith, name-small, header.few)))
+  pub arity_kept : get_or b' (8 + get_or b' at 0) 0 ≡ get_or b (8 + get_or b' at 0) 0
+  arity_kept = name.kept.same (8 + get_or b' at 0) (inl (omega (arith, name_small, header.few)))
 
   pub arity_few : get_or b' (8 + get_or b' at 0) 0 ≤ 4
-  arity_few = rw arity-kept (header.each (get_or b' at 0) name-small)
+  arity_few = rw arity_kept (header.each (get_or b' at 0) name_small)
 
-  pub arity-read : get_or (arities_in b) (get_or b' at 0) 0 ≡ get_or b' (8 + get_or b' at 0) 0
-  arity-read = arity_at b (get_or b' at 0) name-small ∙ sym arity-kept
+  pub arity_read : get_or (arities_in b) (get_or b' at 0) 0 ≡ get_or b' (8 + get_or b' at 0) 0
+  arity_read = arity_at b (get_or b' at 0) name_small ∙ sym arity_kept

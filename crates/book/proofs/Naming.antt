@@ -17,22 +17,22 @@ module _ (given bytes : List ℕ) (c c₁ : Cursor) (n v : ℕ) (h : Yields (byt
   pub term-nil : v ≡ 255 → Yields (term (constants_in given) n) bytes c c₁ (term_as (fixed_in given) 128)
   term-nil e = chain (term_of (constants_in given) n) h (rw (eq-eqb v 255 e, term_of) (done bytes c₁ (fixed 0)))
 
-  pub term-var : v < n → n ≤ 8 → Yields (term (constants_in given) n) bytes c c₁ (term_as (fixed_in given) v)
-  term-var l k =
+  pub term_var : v < n → n ≤ 8 → Yields (term (constants_in given) n) bytes c c₁ (term_as (fixed_in given) v)
+  term_var l k =
       rw (lt-ltb v 128 (omega arith), term_as)
       (chain (term_of (constants_in given) n) h (rw (ne_eqb v 255 (λ e. absurd (omega arith)), lt-ltb v 128 (omega arith), term_of)
       (passed bytes c₁ (ltb v n) 3 (var v) (lt-ltb v n l))))
 
   module _ (other : v ≡ 255 → ⊥) where
-    pub no-var : v < 128 → n ≤ v → (t : Term) → Yields (term (constants_in given) n) bytes c (stopped 3 c₁) t
-    no-var low l t =
+    pub no_var : v < 128 → n ≤ v → (t : Term) → Yields (term (constants_in given) n) bytes c (stopped 3 c₁) t
+    no_var low l t =
         chain (term_of (constants_in given) n) h (rw (ne_eqb v 255 other, lt-ltb v 128 low, term_of) (failed bytes c₁ (ltb v n) 3 (var v) t (le-ltb v n l)))
 
     known : length (constants_in given) ≡ constant_count given
     known = entries-length given 3 (constant_count given)
 
-    pub term-constant : 128 ≤ v → v - 128 < constant_count given → Yields (term (constants_in given) n) bytes c c₁ (term_as (fixed_in given) (v + 1))
-    term-constant high l =
+    pub term_constant : 128 ≤ v → v - 128 < constant_count given → Yields (term (constants_in given) n) bytes c c₁ (term_as (fixed_in given) (v + 1))
+    term_constant high l =
         let next : suc (v - 128) ≡ v + 1 - 128 = omega arith in
         let is : get_or (constants_in given) (v - 128) 0 ≡ fixed_in given (v + 1 - 128) = ap (fixed_in given) next in
         rw (le-ltb (v + 1) 128 (omega arith), term_as)
@@ -40,8 +40,8 @@ module _ (given bytes : List ℕ) (c c₁ : Cursor) (n v : ℕ) (h : Yields (byt
         (become (ap fixed is) (passed bytes c₁ (ltb (v - 128) (length (constants_in given))) 3 (fixed (get_or (constants_in given) (v - 128) 0))
         (lt-ltb (v - 128) (length (constants_in given)) (omega (arith, known)))))))
 
-    pub no-constant : 128 ≤ v → constant_count given ≤ v - 128 → (t : Term) → Yields (term (constants_in given) n) bytes c (stopped 3 c₁) t
-    no-constant high l t =
+    pub no_constant : 128 ≤ v → constant_count given ≤ v - 128 → (t : Term) → Yields (term (constants_in given) n) bytes c (stopped 3 c₁) t
+    no_constant high l t =
         chain (term_of (constants_in given) n) h (rw (ne_eqb v 255 other, le-ltb v 128 high, term_of)
         (failed bytes c₁ (ltb (v - 128) (length (constants_in given))) 3 (fixed (get_or (constants_in given) (v - 128) 0)) t
         (le-ltb (v - 128) (length (constants_in given)) (omega (arith, known)))))

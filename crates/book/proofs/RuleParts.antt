@@ -11,7 +11,7 @@ use Rattle.block.specs.Layout.{rule_as, fixed_in, constants_in, first_rule, rule
 use Rattle.reader.specs.{Cursor.Yields, Cursor.ranged_byte, Layout.Layout, Layout.KeptOutside, Layout.Fills, Layout.many}
 use Rattle.book.specs.BookLayout.{count_layout, name_layout, pure_layout, atom_layout, call_layout, Header, arities_in, Body, rule_layout}
 use Rattle.reader.specs.declared.Cursor.{Cursor}
-use Rattle.book.proofs.{Heading.arities_length, Heading.arities_kept, Heading.arity_few, Heading.arity-read, Locals.pure_local, Locals.atom_local}
+use Rattle.book.proofs.{Heading.arities_length, Heading.arities_kept, Heading.arity_few, Heading.arity_read, Locals.pure_local, Locals.atom_local}
 use Rattle.reader.proofs.{Chain.chain, Chain.done, Chain.become, Chain.alike, Chain.turn, Counting.counted_read, Keep.kept_both, Section.many_local}
 
 module _ (given : List ℕ) (n at : ℕ) {bytes : List ℕ} {c c₁ c₂ c₃ c₄ c₅ : Cursor} {b b₁ b₂ b₃ b₄ b₅ : List ℕ}
@@ -50,42 +50,42 @@ module _ (given : List ℕ) (n at : ℕ) {bytes : List ℕ} {c c₁ c₂ c₃ c�
     abbrev Stays : {A : Type 0} → Layout A → ℕ → List ℕ → List ℕ → Type 0
     Stays layout from x y = (layout.held y from ≡ layout.held x from) × layout.Sized y from
 
-    atoms-stay : Stays (many (get_or b₃ (at + 3) 0) (atom_layout given n)) (at + 32) b₄ b₆
-    atoms-stay =
+    atoms_stay : Stays (many (get_or b₃ (at + 3) 0) (atom_layout given n)) (at + 32) b₄ b₆
+    atoms_stay =
         let few = count₂.sized.high in
         (many_local _ (atom_layout given n) (atom_local given n)).same b₄ b₆ (at + 32) (λ i l. absurd (omega arith))
         (λ i l₁ l₂. calls.kept.same i (inl (omega arith)) ∙ count₃.kept.same i (inr (omega arith))) atoms.sized
 
-    pures-stay : Stays (many (get_or b₁ (at + 2) 0) (pure_layout given n)) (at + 8) b₂ b₆
-    pures-stay =
+    pures_stay : Stays (many (get_or b₁ (at + 2) 0) (pure_layout given n)) (at + 8) b₂ b₆
+    pures_stay =
         let few = count₁.sized.high in
         (many_local _ (pure_layout given n) (pure_local given n)).same b₂ b₆ (at + 8) (λ i l. absurd (omega arith))
         (λ i l₁ l₂. calls.kept.same i (inl (omega arith)) ∙ count₃.kept.same i (inr (omega arith)) ∙ atoms.kept.same i (inl (omega arith))
         ∙ count₂.kept.same i (inr (omega arith))) pures.sized
 
-    rule-stays : ◌≡◌ {A = Rule} (record {
+    rule_stays : ◌≡◌ {A = Rule} (record {
       head = get_or b at 0;
       bound = get_or b (at + 1) 0;
       pures = (many (get_or b₁ (at + 2) 0) (pure_layout given n)).held b₂ (at + 8);
       points_to = (many (get_or b₃ (at + 3) 0) (atom_layout given n)).held b₄ (at + 32);
       calls = (many (get_or b₅ (at + 4) 0) (call_layout (arities_in b₅) given n)).held b₆ (at + 56);
     }) (rule_as (fixed_in given) b₆ at)
-    rule-stays = rw (m₁, m₂, m₃, kept₀₆.same at (inl (omega arith)), kept₀₆.same (at + 1) (inl (omega arith)), pures-stay.0, atoms-stay.0)
+    rule_stays = rw (m₁, m₂, m₃, kept₀₆.same at (inl (omega arith)), kept₀₆.same (at + 1) (inl (omega arith)), pures_stay.0, atoms_stay.0)
 
     called : Yields (times (get_or b₅ (at + 4) 0) (call (arities_in b) (constants_in given) n)) bytes c₅ c₆ ((many (get_or b₅ (at + 4) 0) (call_layout (arities_in b₅) given n)).held b₆ (at + 56))
     called = turn (ap (λ (arities : List ℕ). times (get_or b₅ (at + 4) 0) (call arities (constants_in given) n)) (arities_kept kept₀₅ (omega arith) header.few)) calls.reads
 
-    pub body-fills : Body at n given bytes c b b₆ c₆
-    body-fills = record {
+    pub body_fills : Body at n given bytes c b b₆ c₆
+    body_fills = record {
       reads =
-          become rule-stays
+          become rule_stays
           (chain _ (counted_read 1 2 8 (pure (constants_in given) n) count₁.reads pures.reads)
           (chain _ (counted_read 1 2 4 (atom (constants_in given) n) count₂.reads atoms.reads)
           (chain _ (counted_read 1 2 3 (call (arities_in b) (constants_in given) n) count₃.reads called) (done bytes c₆ _))));
       sized = record {
         pures = rw m₁ count₁.sized.high;
         atoms = rw m₂ count₂.sized.high;
-        fields = rw m₂ atoms-stay.1;
+        fields = rw m₂ atoms_stay.1;
         calls = rw m₃ count₃.sized.high;
         called = rw m₃ calls.sized;
       };
@@ -122,7 +122,7 @@ rule_fills given at {bytes} {c₂ = c₂} {c₃ = c₃} {b} {b₁} {b₂} {b₃}
     let k = kept_both at (at + rule_size) name.kept bound.kept (omega arith) in
     let e : arities_in b₂ ≡ arities_in b = arities_kept k low header.few in
     let h : get_or b₂ at 0 ≡ get_or b₁ at 0 = bound.kept.same at (inl (omega arith)) in
-    let n : get_or b₁ (8 + get_or b₁ at 0) 0 ≡ get_or (arities_in b) (get_or b₁ at 0) 0 = sym (arity-read at header low name) in
+    let n : get_or b₁ (8 + get_or b₁ at 0) 0 ≡ get_or (arities_in b) (get_or b₁ at 0) 0 = sym (arity_read at header low name) in
     record {
       reads =
           chain _ (turn (ap named (sym (arities_length b))) name.reads)

@@ -10,7 +10,7 @@ use Rattle.block.specs.Layout.{rule_set_as, constant_count, constants_in, first_
 use Rattle.reader.specs.{Cursor.Yields, Cursor.ranged_byte, Cursor.Ranged, Layout.value_layout, Layout.Fills, Layout.many}
 use Rattle.book.specs.BookLayout.{count_layout, rule_layout, Header, arities_in, ConstantsFill, RuleSetFills}
 use Rattle.reader.specs.declared.{Cursor.Cursor, Entry.Entry}
-use Rattle.book.proofs.Heading.{arities-same, header-same, arities_kept, header_kept}
+use Rattle.book.proofs.Heading.{arities_same, header_same, arities_kept, header_kept}
 use Rattle.reader.proofs.{Chain.assoc, Chain.chain, Chain.done, Chain.become, Chain.alike, Chain.turn, Counting.counted_read, Section.ones}
 
 -- a number of arguments is a count of at most 4
@@ -58,23 +58,23 @@ module _ {bytes : List ℕ} {c c₁ c₂ cₖ c₃ : Cursor} {b b₁ b₂ b₃ q
 
   -- the second count stands apart from the arities
   pub header₃ : Header b₃
-  header₃ = header-same b₂ b₃ (count₂.kept.same 0 (inl (omega arith))) (λ i l₁ l₂. count₂.kept.same i (inr (omega arith))) header₂
+  header₃ = header_same b₂ b₃ (count₂.kept.same 0 (inl (omega arith))) (λ i l₁ l₂. count₂.kept.same i (inr (omega arith))) header₂
 
   arities₃ : arities_in b₃ ≡ arities_in b₂
-  arities₃ = arities-same b₂ b₃ (count₂.kept.same 0 (inl (omega arith))) (λ i l₁ l₂. count₂.kept.same i (inr (omega arith))) header₂.few
+  arities₃ = arities_same b₂ b₃ (count₂.kept.same 0 (inl (omega arith))) (λ i l₁ l₂. count₂.kept.same i (inr (omega arith))) header₂.few
 
-  arities-read : Yields (times (get_or b₁ 0 0) arguments) bytes c₁ c₂ (arities_in b₂)
-  arities-read =
+  arities_read : Yields (times (get_or b₁ 0 0) arguments) bytes c₁ c₂ (arities_in b₂)
+  arities_read =
       turn (ap (λ (read : Reader ℕ). times (get_or b₁ 0 0) read) is_arguments)
       (become (ones b₂ 8 (get_or b₁ 0 0) ∙ ap (λ (n : ℕ). entries b₂ 8 n) (sym n₂)) arities.reads)
 
-  pub rule-set-fills : {c₄ : Cursor} {b₄ : List ℕ} → length q ≡ query_size → Fills (many (get_or b₃ 1 0) (rule_layout (arities_in b₃) q')) first_rule bytes c₃ b₃ b₄ c₄
+  pub rule-set_fills : {c₄ : Cursor} {b₄ : List ℕ} → length q ≡ query_size → Fills (many (get_or b₃ 1 0) (rule_layout (arities_in b₃) q')) first_rule bytes c₃ b₃ b₄ c₄
       → RuleSetFills bytes c b b₄ q' c₄
   unfolding rule_set_as
-  rule-set-fills {c₄} {b₄} query_long rules = record {
+  rule-set_fills {c₄} {b₄} query_long rules = record {
     reads =
         rw (arities_kept rules.kept (omega arith) header₃.few ∙ arities₃, rules.kept.same 1 (inl (omega arith)))
-        (chain _ (predicates_read count₁.reads arities-read)
+        (chain _ (predicates_read count₁.reads arities_read)
         (chain _ fixed.reads
         (chain _ (counted_read 1 2 16 (rule (arities_in b₂) (constants_in q')) count₂.reads
         (turn (ap (λ (a : List ℕ). times (get_or b₃ 1 0) (rule a (constants_in q'))) arities₃) rules.reads))

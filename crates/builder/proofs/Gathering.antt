@@ -19,31 +19,31 @@ pub record GatheredTo (table : List ℕ) (at : ℕ) (before : List ℕ) (i : ℕ
 
 -- what writing a line leaves
 module _ (space : List ℕ) (line fact positions names : ℕ) (low : 1 ≤ line) (inside : 3 * line ≤ length space) where
-  pub put-long : length (putting space line fact positions names) ≡ length space
-  put-long = simp length-set
+  pub put_long : length (putting space line fact positions names) ≡ length space
+  put_long = simp length-set
 
   put_other : (k : ℕ) → k ≢ 3 * line - 3 → k ≢ 3 * line - 2 → k ≢ 3 * line - 1 → get_or (putting space line fact positions names) k 0 ≡ get_or space k 0
   put_other k a b c =
       get_or-set_other (set (set space (3 * line - 3) fact) (3 * line - 2) positions) (3 * line - 1) k names 0 c
       ∙ get_or-set_other (set space (3 * line - 3) fact) (3 * line - 2) k positions 0 b ∙ get_or-set_other space (3 * line - 3) k fact 0 a
 
-  put-fact : fact_at (putting space line fact positions names) line ≡ fact
-  put-fact =
+  put_fact : fact_at (putting space line fact positions names) line ≡ fact
+  put_fact =
       get_or-set_other (set (set space (3 * line - 3) fact) (3 * line - 2) positions) (3 * line - 1) (3 * line - 3) names 0 (λ e. omega arith)
       ∙ get_or-set_other (set space (3 * line - 3) fact) (3 * line - 2) (3 * line - 3) positions 0 (λ e. omega arith)
       ∙ get_or-set_same space (3 * line - 3) fact 0 (omega arith)
 
-  put-positions : positions_at (putting space line fact positions names) line ≡ positions
-  put-positions =
+  put_positions : positions_at (putting space line fact positions names) line ≡ positions
+  put_positions =
       get_or-set_other (set (set space (3 * line - 3) fact) (3 * line - 2) positions) (3 * line - 1) (3 * line - 2) names 0 (λ e. omega arith)
       ∙ get_or-set_same (set space (3 * line - 3) fact) (3 * line - 2) positions 0 (simp length-set (omega arith))
 
-  put-names : rule_at (putting space line fact positions names) line ≡ names
-  put-names = get_or-set_same (set (set space (3 * line - 3) fact) (3 * line - 2) positions) (3 * line - 1) names 0 (simp length-set (omega arith))
+  put_names : rule_at (putting space line fact positions names) line ≡ names
+  put_names = get_or-set_same (set (set space (3 * line - 3) fact) (3 * line - 2) positions) (3 * line - 1) names 0 (simp length-set (omega arith))
 
 module _ {table : List ℕ} {at : ℕ} {before : List ℕ} (ready : Lined at before) where
-  pub gathered-all : {i : ℕ} {after : List ℕ} → at < i → GatheredTo table at before i after → Gathered table at before after
-  gathered-all l r = record {
+  pub gathered_all : {i : ℕ} {after : List ℕ} → at < i → GatheredTo table at before i after → Gathered table at before after
+  gathered_all l r = record {
     long = r.long;
     facts = λ j h. r.facts j (omega arith);
     positions = λ j h. r.positions j (omega arith);
@@ -51,8 +51,8 @@ module _ {table : List ℕ} {at : ℕ} {before : List ℕ} (ready : Lined at bef
   }
 
   module _ {i : ℕ} {after : List ℕ} (upto : i ≤ at) (r : GatheredTo table at before i after) where
-    pub gathered-free : mark_at after i ≡ 0 → GatheredTo table at before (i + 1) after
-    gathered-free z =
+    pub gathered_free : mark_at after i ≡ 0 → GatheredTo table at before (i + 1) after
+    gathered_free z =
         let free : mark_at before i ≡ 0 = sym (r.rest (3 * i) (omega arith)) ∙ z in
         record {
           upto = omega arith;
@@ -69,19 +69,19 @@ module _ {table : List ℕ} {at : ℕ} {before : List ℕ} (ready : Lined at bef
         let same : mark_at after i ≡ mark_at before i = r.rest (3 * i) (omega arith) in
         (omega (arith, ready.low i upto), omega (arith, ready.low i upto, ready.inside, r.long))
 
-    pub gathered-more : 0 < mark_at after i → {written : List ℕ} → written ≡ putting after (mark_at after i) (code_at table i) (positions_in after i) (names_in after i)
+    pub gathered_more : 0 < mark_at after i → {written : List ℕ} → written ≡ putting after (mark_at after i) (code_at table i) (positions_in after i) (names_in after i)
         → GatheredTo table at before (i + 1) written
-    gathered-more z is = rw is (record {
+    gathered_more z is = rw is (record {
       upto = omega arith;
-      long = put-long after line (code_at table i) (positions_in after i) (names_in after i) (omega arith) fits ∙ r.long;
+      long = put_long after line (code_at table i) (positions_in after i) (names_in after i) (omega arith) fits ∙ r.long;
       facts = λ j h n. ⊎_elim (λ (q : j ≡ i). ap (λ (x : ℕ). fact_at put (mark_at before x)) q ∙ ap (fact_at put) (sym same)
-          ∙ put-fact after line (code_at table i) (positions_in after i) (names_in after i) (omega arith) fits ∙ ap (code_at table) (sym q))
+          ∙ put_fact after line (code_at table i) (positions_in after i) (names_in after i) (omega arith) fits ∙ ap (code_at table) (sym q))
           (λ (l : j < i). older j l (3 * mark_at before j - 3) (omega (arith, below j l)) ∙ r.facts j l n) (eq-or-lt_of_le (omega arith));
       positions = λ j h n. ⊎_elim (λ (q : j ≡ i). ap (λ (x : ℕ). positions_at put (mark_at before x)) q ∙ ap (positions_at put) (sym same)
-          ∙ put-positions after line (code_at table i) (positions_in after i) (names_in after i) (omega arith) fits ∙ r.rest (3 * i + 1) (omega arith) ∙ ap (positions_in before) (sym q))
+          ∙ put_positions after line (code_at table i) (positions_in after i) (names_in after i) (omega arith) fits ∙ r.rest (3 * i + 1) (omega arith) ∙ ap (positions_in before) (sym q))
           (λ (l : j < i). older j l (3 * mark_at before j - 2) (omega (arith, below j l)) ∙ r.positions j l n) (eq-or-lt_of_le (omega arith));
       names = λ j h n. ⊎_elim (λ (q : j ≡ i). ap (λ (x : ℕ). rule_at put (mark_at before x)) q ∙ ap (rule_at put) (sym same)
-          ∙ put-names after line (code_at table i) (positions_in after i) (names_in after i) (omega arith) fits ∙ r.rest (3 * i + 2) (omega arith) ∙ ap (names_in before) (sym q))
+          ∙ put_names after line (code_at table i) (positions_in after i) (names_in after i) (omega arith) fits ∙ r.rest (3 * i + 2) (omega arith) ∙ ap (names_in before) (sym q))
           (λ (l : j < i). older j l (3 * mark_at before j - 1) (omega (arith, below j l)) ∙ r.names j l n) (eq-or-lt_of_le (omega arith));
       rest = λ k h. put_other after line (code_at table i) (positions_in after i) (names_in after i) (omega arith) fits k
           (λ e. omega (arith, (line_low z).0)) (λ e. omega (arith, (line_low z).0)) (λ e. omega (arith, (line_low z).0)) ∙ r.rest k (omega arith);

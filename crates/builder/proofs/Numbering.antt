@@ -9,7 +9,7 @@ use Rattle.semantics.proofs.Digits.{digits_of-length}
 use Rattle.ground.specs.Grounded.{called_in, called_at}
 use Rattle.builder.specs.Space.{mark_at, positions_in, names_in, count, line_of, renamed}
 use Rattle.builder.specs.Steps.{number_at, Numberable, LinesNamed}
-use Rattle.builder.proofs.Counting.{count-marked, count-free, count-below}
+use Rattle.builder.proofs.Counting.{count_marked, count_free, count_below}
 
 -- The places below i are numbered.
 pub record NumberedTo (at : ℕ) (before : List ℕ) (i : ℕ) (after : List ℕ) (lines : ℕ) : Type 0 where
@@ -29,9 +29,9 @@ map_same f g [] h = refl
 map_same f g (x ∷ xs) h = ap₂ (λ (y : ℕ) (ys : List ℕ). y ∷ ys) (h 0 (omega arith)) (map_same f g xs (λ k l. h (suc k) (omega arith)))
 
 module _ {at : ℕ} {before : List ℕ} (ready : Numberable at before) where
-  pub numbered-none : NumberedTo at before 0 before 0
+  pub numbered_none : NumberedTo at before 0 before 0
   unfolding count
-  numbered-none = record {
+  numbered_none = record {
     upto = omega arith;
     counted = refl;
     small = omega arith;
@@ -44,8 +44,8 @@ module _ {at : ℕ} {before : List ℕ} (ready : Numberable at before) where
     names_rest = λ j h. refl;
   }
 
-  pub numbered-all : {i : ℕ} {after : List ℕ} {lines : ℕ} → at < i → NumberedTo at before i after lines → LinesNamed at before after lines
-  numbered-all {i} l r =
+  pub numbered_all : {i : ℕ} {after : List ℕ} {lines : ℕ} → at < i → NumberedTo at before i after lines → LinesNamed at before after lines
+  numbered_all {i} l r =
       let e : i ≡ suc at = omega (arith, r.upto) in
       record {
         counted = r.counted ∙ ap (count before) e;
@@ -58,10 +58,10 @@ module _ {at : ℕ} {before : List ℕ} (ready : Numberable at before) where
 
   module _ {i : ℕ} {after : List ℕ} {lines : ℕ} (upto : i ≤ at) (r : NumberedTo at before i after lines) where
     -- what the numbers passed say of the called places of place i
-    called-lines : (again : List ℕ) → ((j : ℕ) → j < i → mark_at again j ≡ mark_at after j) → mark_at before i ≢ 0
+    called_lines : (again : List ℕ) → ((j : ℕ) → j < i → mark_at again j ≡ mark_at after j) → mark_at before i ≢ 0
         → map (number_at again) (called_in (names_in before i)) ≡ map (line_of before) (called_in (names_in before i))
     unfolding line_of
-    called-lines again same z =
+    called_lines again same z =
         map_same (number_at again) (line_of before) (called_in (names_in before i))
         (λ k l. one k (ready.planned.calls i upto z k (omega (arith, digits_of-length 65536 3 (names_in before i / 256)))))
       where
@@ -69,17 +69,17 @@ module _ {at : ℕ} {before : List ℕ} (ready : Numberable at before) where
             → number_at again (called_at (names_in before i) k) ≡ line_of before (called_at (names_in before i) k)
         one k (inl e) = rw e refl
         one k (inr (j, l, m, e)) =
-            let small : suc (count before j) < 65536 = omega (arith, count-below before j, ready.few) in
+            let small : suc (count before j) < 65536 = omega (arith, count_below before j, ready.few) in
             rw e (ap (λ (x : ℕ). x % 65536) (same j l ∙ r.marked j l m) ∙ mod-eq_of_lt small)
 
-    pub numbered-free : mark_at after i ≡ 0 → NumberedTo at before (i + 1) after lines
-    numbered-free z =
+    pub numbered_free : mark_at after i ≡ 0 → NumberedTo at before (i + 1) after lines
+    numbered_free z =
         let free : mark_at before i ≡ 0 = sym (r.marks_rest i (omega arith)) ∙ z in
         let one : i + 1 ≡ suc i = omega arith in
         record {
           upto = omega arith;
           small = omega (arith, r.small);
-          counted = r.counted ∙ sym (ap (count before) one ∙ count-free before i free);
+          counted = r.counted ∙ sym (ap (count before) one ∙ count_free before i free);
           long = r.long;
           free = λ j h e. ⊎_elim (λ (q : j ≡ i). ap (mark_at after) q ∙ z) (λ (l : j < i). r.free j l e) (eq-or-lt_of_le (omega arith));
           marked = λ j h n. ⊎_elim (λ (q : j ≡ i). absurd (n (ap (mark_at before) q ∙ free))) (λ (l : j < i). r.marked j l n) (eq-or-lt_of_le (omega arith));
@@ -93,8 +93,8 @@ module _ {at : ℕ} {before : List ℕ} (ready : Numberable at before) where
     numbered = set after (3 * i) (lines + 1)
 
     -- the called places of place i lie inside
-    pub called-inside : mark_at after i ≢ 0 → (k : ℕ) → k < 3 → 3 * called_at (names_in numbered i) k ≤ length numbered
-    called-inside z k l =
+    pub called_inside : mark_at after i ≢ 0 → (k : ℕ) → k < 3 → 3 * called_at (names_in numbered i) k ≤ length numbered
+    called_inside z k l =
         let full : mark_at before i ≢ 0 = λ e. z (r.marks_rest i (omega arith) ∙ e) in
         let same : names_in numbered i ≡ names_in before i = get_or-set_other after (3 * i) (3 * i + 2) (lines + 1) 0 (λ e. omega arith) ∙ r.names_rest i (omega arith) in
         let e : called_at (names_in numbered i) k ≡ called_at (names_in before i) k = ap (λ (w : ℕ). called_at w k) same in
@@ -112,18 +112,18 @@ module _ {at : ℕ} {before : List ℕ} (ready : Numberable at before) where
         let renaming : word ≡ renamed before (names_in before i) =
         is ∙ ap (λ (w : ℕ). w % 256 + 256 * digits 65536 (map (number_at numbered) (called_in w))) same
         ∙ ap (λ (xs : List ℕ). names_in before i % 256 + 256 * digits 65536 xs)
-        (called-lines numbered (λ j l. get_or-set_other after (3 * i) (3 * j) (lines + 1) 0 (λ e. omega arith)) full) in
+        (called_lines numbered (λ j l. get_or-set_other after (3 * i) (3 * j) (lines + 1) 0 (λ e. omega arith)) full) in
         let here : (j : ℕ) → j ≡ i → mark_at (set numbered (3 * i + 2) word) j ≡ suc (count before j) = λ j q.
         get_or-set_other numbered (3 * i + 2) (3 * j) word 0 (λ e. omega arith) ∙ ap (mark_at numbered) q ∙ get_or-set_same after (3 * i) (lines + 1) 0 (omega arith)
         ∙ omega (arith, r.counted, ap (count before) q) in
         let there : (j : ℕ) → j ≢ i → mark_at (set numbered (3 * i + 2) word) j ≡ mark_at after j = λ j n.
         get_or-set_other numbered (3 * i + 2) (3 * j) word 0 (λ e. omega arith) ∙ get_or-set_other after (3 * i) (3 * j) (lines + 1) 0 (λ e. n (omega arith)) in
-        let there-names : (j : ℕ) → j ≢ i → names_in (set numbered (3 * i + 2) word) j ≡ names_in after j = λ j n.
+        let there_names : (j : ℕ) → j ≢ i → names_in (set numbered (3 * i + 2) word) j ≡ names_in after j = λ j n.
         get_or-set_other numbered (3 * i + 2) (3 * j + 2) word 0 (λ e. n (omega arith)) ∙ get_or-set_other after (3 * i) (3 * j + 2) (lines + 1) 0 (λ e. omega arith) in
         record {
           upto = omega arith;
           small = omega (arith, r.small);
-          counted = omega (arith, r.counted, ap (count before) one, count-marked before i full);
+          counted = omega (arith, r.counted, ap (count before) one, count_marked before i full);
           long = length-set numbered (3 * i + 2) word ∙ length-set after (3 * i) (lines + 1) ∙ r.long;
           free = λ j h e. ⊎_elim (λ (q : j ≡ i). absurd (full (ap (mark_at before) (sym q) ∙ e)))
               (λ (l : j < i). there j (λ q. omega arith) ∙ r.free j l e) (eq-or-lt_of_le (omega arith));
@@ -132,7 +132,7 @@ module _ {at : ℕ} {before : List ℕ} (ready : Numberable at before) where
           names = λ j h n. ⊎_elim
               (λ (q : j ≡ i). ap (names_in (set numbered (3 * i + 2) word)) q
               ∙ get_or-set_same numbered (3 * i + 2) word 0 (omega (arith, length-set after (3 * i) (lines + 1))) ∙ renaming ∙ ap (λ (x : ℕ). renamed before (names_in before x)) (sym q))
-              (λ (l : j < i). there-names j (λ q. omega arith) ∙ r.names j l n) (eq-or-lt_of_le (omega arith));
+              (λ (l : j < i). there_names j (λ q. omega arith) ∙ r.names j l n) (eq-or-lt_of_le (omega arith));
           marks_rest = λ j h. there j (λ q. omega arith) ∙ r.marks_rest j (omega arith);
-          names_rest = λ j h. there-names j (λ q. omega arith) ∙ r.names_rest j (omega arith);
+          names_rest = λ j h. there_names j (λ q. omega arith) ∙ r.names_rest j (omega arith);
         }

@@ -41,8 +41,8 @@ pub record FirstCall (rules : List ℕ) (rule : ℕ) (words : List ℕ) (k : ℕ
   pub rest : CallsFrom rules rule words k σ part (c + 1) (lines / 65536) (part_of (fact_at words (lines % 65536)) + used)
 
 module _ (rules : List ℕ) (rule c : ℕ) {words : List ℕ} {k : ℕ} {σ : List ℕ} {part lines used : ℕ} where
-  pub calls-step : c < call_count rules rule → CallsFrom rules rule words k σ part c lines used ↔ FirstCall rules rule words k σ part c lines used
-  calls-step h = (λ j. first (rw next at j), λ f. rw next (CallsJoin.next f.line f.disjoint f.rest))
+  pub calls_step : c < call_count rules rule → CallsFrom rules rule words k σ part c lines used ↔ FirstCall rules rule words k σ part c lines used
+  calls_step h = (λ j. first (rw next at j), λ f. rw next (CallsJoin.next f.line f.disjoint f.rest))
     where
       next : drop c (rule_in rules rule).calls ≡ call_in rules (call_place rule c) ∷ drop (c + 1) (rule_in rules rule).calls
       next = drop_next (call_count rules rule) (λ i. call_in rules (call_place rule i)) c h
@@ -50,8 +50,8 @@ module _ (rules : List ℕ) (rule c : ℕ) {words : List ℕ} {k : ℕ} {σ : Li
       first : CallsJoin words k σ part (call_in rules (call_place rule c) ∷ drop (c + 1) (rule_in rules rule).calls) lines used → FirstCall rules rule words k σ part c lines used
       first (CallsJoin.next l a r) = record { line = l; disjoint = a; rest = r }
 
-  pub calls-done : call_count rules rule ≤ c → CallsFrom rules rule words k σ part c lines used ↔ ((lines ≡ 0) × (used ≡ part))
-  calls-done h = rw (drop_end (call_count rules rule) (λ i. call_in rules (call_place rule i)) c h) (last, λ e. CallsJoin.done e.0 e.1)
+  pub calls_done : call_count rules rule ≤ c → CallsFrom rules rule words k σ part c lines used ↔ ((lines ≡ 0) × (used ≡ part))
+  calls_done h = rw (drop_end (call_count rules rule) (λ i. call_in rules (call_place rule i)) c h) (last, λ e. CallsJoin.done e.0 e.1)
     where
       last : CallsJoin words k σ part [] lines used → (lines ≡ 0) × (used ≡ part)
       last (CallsJoin.done e u) = (e, u)
@@ -84,8 +84,8 @@ pub record FirstAtom (rules : List ℕ) (rule : ℕ) (records σ : List ℕ) (af
   pub rest : AtomsFrom rules rule records σ after (g + 1) (2 ^ i + used)
 
 module _ (rules : List ℕ) (rule g : ℕ) {records σ : List ℕ} {after : ℕ → Type 0} {used : ℕ} where
-  pub atoms-step : g < atom_count rules rule → AtomsFrom rules rule records σ after g used ↔ ((i : ℕ) × FirstAtom rules rule records σ after g i used)
-  atoms-step h = (λ j. first (rw next at j), λ f. rw next (AtomsJoin.next f.0 f.1.takes f.1.disjoint f.1.rest))
+  pub atoms_step : g < atom_count rules rule → AtomsFrom rules rule records σ after g used ↔ ((i : ℕ) × FirstAtom rules rule records σ after g i used)
+  atoms_step h = (λ j. first (rw next at j), λ f. rw next (AtomsJoin.next f.0 f.1.takes f.1.disjoint f.1.rest))
     where
       next : drop g (rule_in rules rule).points_to ≡ atom_in rules (atom_place rule g) ∷ drop (g + 1) (rule_in rules rule).points_to
       next = drop_next (atom_count rules rule) (λ i. atom_in rules (atom_place rule i)) g h
@@ -94,15 +94,15 @@ module _ (rules : List ℕ) (rule g : ℕ) {records σ : List ℕ} {after : ℕ 
       first (AtomsJoin.next i f z r) = (i, record { takes = f; disjoint = z; rest = r })
 
   -- only one record is the first as asked for
-  pub atoms-first : {i : ℕ} → g < atom_count rules rule → FirstRecord records (asked σ (atom_in rules (atom_place rule g))) i
+  pub atoms_first : {i : ℕ} → g < atom_count rules rule → FirstRecord records (asked σ (atom_in rules (atom_place rule g))) i
       → AtomsFrom rules rule records σ after g used → FirstAtom rules rule records σ after g i used
-  atoms-first {i} h f j =
-      let (k, p) = (atoms-step h).0 j in
+  atoms_first {i} h f j =
+      let (k, p) = (atoms_step h).0 j in
       let e : k ≡ i = first_same records (asked σ (atom_in rules (atom_place rule g))) k i p.takes f in
       rw e at p
 
-  pub atoms-done : atom_count rules rule ≤ g → AtomsFrom rules rule records σ after g used ↔ after used
-  atoms-done h = rw (drop_end (atom_count rules rule) (λ i. atom_in rules (atom_place rule i)) g h) (last, AtomsJoin.done)
+  pub atoms_done : atom_count rules rule ≤ g → AtomsFrom rules rule records σ after g used ↔ after used
+  atoms_done h = rw (drop_end (atom_count rules rule) (λ i. atom_in rules (atom_place rule i)) g h) (last, AtomsJoin.done)
     where
       last : AtomsJoin records σ after [] used → after used
       last (AtomsJoin.done p) = p

@@ -7,7 +7,7 @@ use native.Mathlib.{Omega.arith, Decide.dec_lt}
 use lib.ListN.{length, get_or, take, drop, set, length-set, length-take, get_or-eq_default}
 use lib.Seq.{slice, drop_at, length-take-le, slice-cons, length-slice, take-suc-set, take-add, get_or-drop, get_or-take}
 use Rattle.semantics.specs.{Lists.◌among◌, Lists.digits, Lists.digits_of, Contract.bytes_of}
-use Rattle.semantics.proofs.Digits.{digits-below, digits-back}
+use Rattle.semantics.proofs.Digits.{digits_below, digits_back}
 use Rattle.desk.specs.Words.{Loads}
 
 abbrev AllBytes : List ℕ → Type 0
@@ -40,11 +40,11 @@ slice_bytes bytes a b all x m = member (drop a (take b bytes)) (λ i. rw get_or-
 -- fewer than eight bytes leave room for one more
 pub word_below : (bytes : List ℕ) (at j : ℕ) → AllBytes bytes → at + 8 ≤ length bytes → j ≤ 8 → (n : ℕ) → 8 ≤ j + n → digits 256 (slice (at + j) (at + 8) bytes) < 256 ^ n
 word_below bytes at j all inside l n h =
-    digits-below 256 n (slice (at + j) (at + 8) bytes) (omega arith) (omega (arith, length-slice (at + j) (at + 8) bytes inside)) (slice_bytes bytes (at + j) (at + 8) all)
+    digits_below 256 n (slice (at + j) (at + 8) bytes) (omega arith) (omega (arith, length-slice (at + j) (at + 8) bytes inside)) (slice_bytes bytes (at + j) (at + 8) all)
 
 pub none_below : (n : ℕ) → 0 < 256 ^ n
 unfolding digits
-none_below n = digits-below 256 n [] (omega arith) (omega arith) (λ x m. absurd (Memᴰ.not-nil m))
+none_below n = digits_below 256 n [] (omega arith) (omega arith) (λ x m. absurd (Memᴰ.not-nil m))
 
 bytes_of-append : (xs ys : List ℕ) → bytes_of (xs ++ ys) ≡ bytes_of xs ++ bytes_of ys
 bytes_of-append [] ys = refl
@@ -78,4 +78,4 @@ loads_more bytes words k {w} all inside room few e h = record {
     eight : bytes_of (w ∷ []) ≡ take 8 (drop (8 * k) bytes)
     eight =
         append-nil (digits_of 256 8 w) ∙ ap (digits_of 256 8) e ∙ ap (λ (n : ℕ). digits_of 256 n (digits 256 (slice (8 * k) (8 * k + 8) bytes))) (sym long)
-        ∙ digits-back 256 (slice (8 * k) (8 * k + 8) bytes) (slice_bytes bytes (8 * k) (8 * k + 8) all) ∙ drop-take (8 * k) 8 bytes (omega arith)
+        ∙ digits_back 256 (slice (8 * k) (8 * k + 8) bytes) (slice_bytes bytes (8 * k) (8 * k + 8) all) ∙ drop-take (8 * k) 8 bytes (omega arith)

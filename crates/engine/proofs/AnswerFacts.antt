@@ -26,46 +26,46 @@ room_counted i {rounds} {facts} c n = (by (dec_lt n (length facts)), λ l m. ome
 
 module _ {i : Input} {n : ℕ} {Yes : Type 0} {part : ℕ} {r : Reply} {t x : List ℕ} where
   -- 11 or 0
-  pub number-answered : Answers i n Yes part r t x → ((r.refusal ≡ 11) × MoreFactsThan i n) ⊎ ((r.refusal ≡ 0) × (¬ MoreFactsThan i n))
-  number-answered w =
+  pub number_answered : Answers i n Yes part r t x → ((r.refusal ≡ 11) × MoreFactsThan i n) ⊎ ((r.refusal ≡ 0) × (¬ MoreFactsThan i n))
+  number_answered w =
       ⊎_elim (λ over. inl (ap refusal_in over.1, over.0)) (λ f. inr (f.unrefused, (room_counted i f.filled.completed n).1 f.filled.room)) (tabled i n w)
 
-  pub eleven-answered : Answers i n Yes part r t x → (r.refusal ≡ 11) ↔ MoreFactsThan i n
-  eleven-answered w = ⊎_elim (λ z. (λ e. z.1, λ m. z.0)) (λ z. (λ e. absurd (omega (arith, z.0)), λ m. absurd (z.1 m))) (number-answered w)
+  pub eleven_answered : Answers i n Yes part r t x → (r.refusal ≡ 11) ↔ MoreFactsThan i n
+  eleven_answered w = ⊎_elim (λ z. (λ e. z.1, λ m. z.0)) (λ z. (λ e. absurd (omega (arith, z.0)), λ m. absurd (z.1 m))) (number_answered w)
 
-  pub zero-answered : Answers i n Yes part r t x → (r.refusal ≡ 0) ↔ (¬ MoreFactsThan i n)
-  zero-answered w = ⊎_elim (λ z. (λ e. absurd (omega (arith, z.0)), λ m. absurd (m z.1))) (λ z. (λ e. z.1, λ m. z.0)) (number-answered w)
+  pub zero_answered : Answers i n Yes part r t x → (r.refusal ≡ 0) ↔ (¬ MoreFactsThan i n)
+  zero_answered w = ⊎_elim (λ z. (λ e. absurd (omega (arith, z.0)), λ m. absurd (m z.1))) (λ z. (λ e. z.1, λ m. z.0)) (number_answered w)
 
-  pub other-answered : Answers i n Yes part r t x → r.refusal ≢ 0 → r.refusal ≡ 11
-  other-answered w k = ⊎_elim (λ z. z.0) (λ z. absurd (k z.0)) (number-answered w)
+  pub other_answered : Answers i n Yes part r t x → r.refusal ≢ 0 → r.refusal ≡ 11
+  other_answered w k = ⊎_elim (λ z. z.0) (λ z. absurd (k z.0)) (number_answered w)
 
-  pub over-answered : Answers i n Yes part r t x → r.refusal ≡ 11 → (r ≡ refusal_reply 11) × (t ≡ zeros n) × (x ≡ zeros (3 * n))
-  over-answered w e = ⊎_elim (λ over. (over.1, over.2, over.3)) (λ f. absurd (omega (arith, f.unrefused))) (tabled i n w)
+  pub over_answered : Answers i n Yes part r t x → r.refusal ≡ 11 → (r ≡ refusal_reply 11) × (t ≡ zeros n) × (x ≡ zeros (3 * n))
+  over_answered w e = ⊎_elim (λ over. (over.1, over.2, over.3)) (λ f. absurd (omega (arith, f.unrefused))) (tabled i n w)
 
-  pub table-answered : Answers i n Yes part r t x → r.refusal ≡ 0 → (facts : List ℕ) × FilledInput i n r.rounds facts t × (length facts ≡ r.facts)
-  table-answered w e = ⊎_elim (λ over. absurd (omega (arith, ap refusal_in over.1))) (λ f. (f.facts, f.filled, f.counted)) (tabled i n w)
+  pub table_answered : Answers i n Yes part r t x → r.refusal ≡ 0 → (facts : List ℕ) × FilledInput i n r.rounds facts t × (length facts ≡ r.facts)
+  table_answered w e = ⊎_elim (λ over. absurd (omega (arith, ap refusal_in over.1))) (λ f. (f.facts, f.filled, f.counted)) (tabled i n w)
 
-  pub verdict-answered : Answers i n Yes part r t x → r.verdict ≤ 1
-  verdict-answered (Answers.over m a b c) = omega (arith, ap verdict_in a)
-  verdict-answered (Answers.fits rounds facts words f v u a c) = omega (arith, ap verdict_in a)
-  verdict-answered (Answers.Fits-not rounds facts f v a c) = omega (arith, ap verdict_in a)
+  pub verdict_answered : Answers i n Yes part r t x → r.verdict ≤ 1
+  verdict_answered (Answers.over m a b c) = omega (arith, ap verdict_in a)
+  verdict_answered (Answers.fits rounds facts words f v u a c) = omega (arith, ap verdict_in a)
+  verdict_answered (Answers.fits_not rounds facts f v a c) = omega (arith, ap verdict_in a)
 
-  pub fits-answered : Answers i n Yes part r t x → r.refusal ≡ 0 → ((r.verdict ≡ 1) ↔ Yes) × ((r.verdict ≡ 0) ↔ (¬ Yes))
-  fits-answered (Answers.over m a b c) e = absurd (omega (arith, ap refusal_in a))
-  fits-answered (Answers.fits rounds facts words f v u a c) e =
+  pub fits_answered : Answers i n Yes part r t x → r.refusal ≡ 0 → ((r.verdict ≡ 1) ↔ Yes) × ((r.verdict ≡ 0) ↔ (¬ Yes))
+  fits_answered (Answers.over m a b c) e = absurd (omega (arith, ap refusal_in a))
+  fits_answered (Answers.fits rounds facts words f v u a c) e =
       let q = ap verdict_in a in ((λ _. v, λ _. q), (λ z. absurd (omega (arith, q)), λ k. absurd (k v)))
-  fits-answered (Answers.Fits-not rounds facts f v a c) e =
+  fits_answered (Answers.fits_not rounds facts f v a c) e =
       let q = ap verdict_in a in ((λ z. absurd (omega (arith, q)), λ k. absurd (v k)), (λ _. v, λ _. q))
 
-  pub certificate-answered : Answers i n Yes part r t x → r.verdict ≡ 1 → (words : List ℕ) × (u : TrimmedPart i part words) × (r.lines ≡ u.taken.count) × (x ≡ padded (3 * n) words)
-  certificate-answered (Answers.over m a b c) e = absurd (omega (arith, ap verdict_in a))
-  certificate-answered (Answers.fits rounds facts words f v u a c) e = (words, u, ap (λ (r : Reply). r.lines) a, c)
-  certificate-answered (Answers.Fits-not rounds facts f v a c) e = absurd (omega (arith, ap verdict_in a))
+  pub certificate_answered : Answers i n Yes part r t x → r.verdict ≡ 1 → (words : List ℕ) × (u : TrimmedPart i part words) × (r.lines ≡ u.taken.count) × (x ≡ padded (3 * n) words)
+  certificate_answered (Answers.over m a b c) e = absurd (omega (arith, ap verdict_in a))
+  certificate_answered (Answers.fits rounds facts words f v u a c) e = (words, u, ap (λ (r : Reply). r.lines) a, c)
+  certificate_answered (Answers.fits_not rounds facts f v a c) e = absurd (omega (arith, ap verdict_in a))
 
-  pub empty-answered : Answers i n Yes part r t x → r.verdict ≡ 0 → (r.lines ≡ 0) × (x ≡ zeros (3 * n))
-  empty-answered (Answers.over m a b c) e = (ap (λ (r : Reply). r.lines) a, c)
-  empty-answered (Answers.fits rounds facts words f v u a c) e = absurd (omega (arith, ap verdict_in a))
-  empty-answered (Answers.Fits-not rounds facts f v a c) e = (ap (λ (r : Reply). r.lines) a, c)
+  pub empty_answered : Answers i n Yes part r t x → r.verdict ≡ 0 → (r.lines ≡ 0) × (x ≡ zeros (3 * n))
+  empty_answered (Answers.over m a b c) e = (ap (λ (r : Reply). r.lines) a, c)
+  empty_answered (Answers.fits rounds facts words f v u a c) e = absurd (omega (arith, ap verdict_in a))
+  empty_answered (Answers.fits_not rounds facts f v a c) e = (ap (λ (r : Reply). r.lines) a, c)
 
 -- ---- the check
 
@@ -76,14 +76,14 @@ abbrev pub taken_in : CheckReply → ℕ
 taken_in r = r.taken
 
 module _ {i : Input} {part : ℕ} {words : List ℕ} {r : CheckReply} where
-  pub check-answered : Checks i part words r → (r.refusal ≡ 0) × ((r.taken ≡ 1) ↔ CertificatePart i part words) × ((r.taken ≡ 0) ↔ (¬ CertificatePart i part words))
-  check-answered (Checks.takes c a) =
+  pub check_answered : Checks i part words r → (r.refusal ≡ 0) × ((r.taken ≡ 1) ↔ CertificatePart i part words) × ((r.taken ≡ 0) ↔ (¬ CertificatePart i part words))
+  check_answered (Checks.takes c a) =
       let q = ap taken_in a in
       (ap refused_in a, (λ _. c, λ _. q), (λ z. absurd (omega (arith, q)), λ k. absurd (k c)))
-  check-answered (Checks.takes_not c a) =
+  check_answered (Checks.takes_not c a) =
       let q = ap taken_in a in
       (ap refused_in a, (λ z. absurd (omega (arith, q)), λ k. absurd (c k)), (λ _. c, λ _. q))
 
-  pub taken-answered : Checks i part words r → r.taken ≤ 1
-  taken-answered (Checks.takes c a) = omega (arith, ap taken_in a)
-  taken-answered (Checks.takes_not c a) = omega (arith, ap taken_in a)
+  pub taken_answered : Checks i part words r → r.taken ≤ 1
+  taken_answered (Checks.takes c a) = omega (arith, ap taken_in a)
+  taken_answered (Checks.takes_not c a) = omega (arith, ap taken_in a)

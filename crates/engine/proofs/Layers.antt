@@ -4,7 +4,7 @@ use Prim.Native.Nat.{ℕ, ◌<◌}
 use native.Mathlib.Omega.{arith}
 use lib.{ListN.get_or, ListN.take, Seq.get_or-take, Seq.length-take-le}
 use Rattle.semantics.specs.{Lists.◌among◌, Lists.Ascending, RuleSet.RuleSet, Heap.Heap}
-use Rattle.semantics.proofs.{FixedPoint.follows-more, Coding.ascending_at}
+use Rattle.semantics.proofs.{FixedPoint.follows_more, Coding.ascending_at}
 use Rattle.table.specs.{Table.facts_in, Table.Tagged, Layered.code_at, Layered.EarlierFact, Layered.Layered}
 use Rattle.table.proofs.{Places.place_of, Places.differ, Passes.facts_length, Rounds.fact_at_lem}
 use Rattle.fixpoint.specs.Fixpoint.{Rests}
@@ -26,7 +26,7 @@ module _ (rule_set : RuleSet) (heap : Heap) (domain table : List ℕ) (old facts
   layered rests = record {
     ordered = λ i j h l. omega (arith, word_below i j h l);
     once = code-differs;
-    follows = λ i l. let s = rests i l in follows-more rule_set heap domain (earlier i l s) s.follows;
+    follows = λ i l. let s = rests i l in follows_more rule_set heap domain (earlier i l s) s.follows;
   }
     where
       earlier : (i : ℕ) → i < facts → (s : Rests rule_set heap domain table facts i) → (g : ℕ) → g among facts_in table s.start → EarlierFact table facts i g

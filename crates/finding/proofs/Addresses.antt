@@ -6,7 +6,7 @@ use lib.ListN.{get_or}
 use Rattle.semantics.specs.Heap.{Record, WellFormedHeap, blank}
 use Rattle.semantics.proofs.Addresses.{addresses_ascend}
 use Rattle.block.specs.Layout.{heap_in, record_count, record_address}
-use Rattle.block.proofs.HeapInBlock.{heap-count, record_is}
+use Rattle.block.proofs.HeapInBlock.{heap_count, record_is}
 use Rattle.finding.specs.Records.{RecordAt}
 
 module _ (heap : List ℕ) (formed : WellFormedHeap (heap_in heap)) where
@@ -14,7 +14,7 @@ module _ (heap : List ℕ) (formed : WellFormedHeap (heap_in heap)) where
   ascend j i h l =
       let a : (get_or (heap_in heap) j blank).address ≡ record_address heap j = ap (λ (r : Record). r.address) (sym (record_is heap j (omega arith))) in
       let b : (get_or (heap_in heap) i blank).address ≡ record_address heap i = ap (λ (r : Record). r.address) (sym (record_is heap i l)) in
-      omega (arith, a, b, addresses_ascend formed.ordered j i h (omega (arith, heap-count heap)))
+      omega (arith, a, b, addresses_ascend formed.ordered j i h (omega (arith, heap_count heap)))
 
   -- a record settles those before it, and those after it
   pub up : (v m : ℕ) → m < record_count heap → record_address heap m < v → (i : ℕ) → i < m + 1 → record_address heap i < v
@@ -33,8 +33,8 @@ module _ (heap : List ℕ) (formed : WellFormedHeap (heap_in heap)) where
       step (no l) = elim (ℕ_discrete i f) [ yes q ↦ other (omega (arith, q)) (rw q at e) | no n ↦ omega (arith, e, ascend f i (omega arith) h, above f (omega arith) (omega arith)) ]
 
   -- an address has one record
-  pub one-record : (i j : ℕ) → i < record_count heap → j < record_count heap → record_address heap i ≡ record_address heap j → i ≡ j
-  one-record i j hi hj e = step (ℕ_discrete i j) (dec_lt i j)
+  pub one_record : (i j : ℕ) → i < record_count heap → j < record_count heap → record_address heap i ≡ record_address heap j → i ≡ j
+  one_record i j hi hj e = step (ℕ_discrete i j) (dec_lt i j)
     where
       step : Dec (i ≡ j) → Dec (i < j) → i ≡ j
       step (yes q) d = q

@@ -17,8 +17,8 @@ pure_stays rules at k a b c d ab closed cd = record {
 }
 
 module _ (value : ℕ → ℕ) (rules : List ℕ) (at k : ℕ) where
-  sides-equal : pure_kind rules at k ≡ 0 → (σ : List ℕ) → PureMet value rules at k σ → value_of σ (term_as value (pure_left rules at k)) ≡ value_of σ (term_as value (pure_right rules at k))
-  sides-equal e σ met =
+  sides_equal : pure_kind rules at k ≡ 0 → (σ : List ℕ) → PureMet value rules at k σ → value_of σ (term_as value (pure_left rules at k)) ≡ value_of σ (term_as value (pure_right rules at k))
+  sides_equal e σ met =
       let a : ℕ = value_of σ (term_as value (pure_left rules at k)) in
       let b : ℕ = value_of σ (term_as value (pure_right rules at k)) in
       let compares : Compare (kind_in (pure_kind rules at k)) a b ≡ (a ≡ b) = rw (eq-eqb (pure_kind rules at k) 0 e, Compare) refl in
@@ -26,10 +26,10 @@ module _ (value : ℕ → ℕ) (rules : List ℕ) (at k : ℕ) where
 
   module _ {Fixed : ℕ → Type 0} (f : FormedRule Fixed rules at) (h : k < pure_count rules at) (is : pure_kind rules at k ≡ 0) {before after : List ℕ} (long : length before ≡ 8) where
     -- one side is known, and the other learnt from it
-    along-side : (t u : ℕ) → TermByte Fixed (variables_in rules at) t → ((σ : List ℕ) → PureMet value rules at k σ → value_of σ (term_as value u) ≡ value_of σ (term_as value t))
+    along_side : (t u : ℕ) → TermByte Fixed (variables_in rules at) t → ((σ : List ℕ) → PureMet value rules at k σ → value_of σ (term_as value u) ≡ value_of σ (term_as value t))
         → (Valued after t → Valued after u → PureClosed rules at k before after) → value_of before (term_as value t) < open_entry → Learnt u (value_of before (term_as value t)) before after
         → AlongPure value rules at k before after
-    along-side t u byte same closed small l =
+    along_side t u byte same closed small l =
         let known = small_valued value before t small in
         let a = learnt_along value long small l (variables_in rules at) in
         record {
@@ -38,14 +38,14 @@ module _ (value : ℕ → ℕ) (rules : List ℕ) (at k : ℕ) where
           closed = closed (still_valued before after t a.keeps known) a.closed;
         }
 
-    pub along-right : value_of before (term_as value (pure_left rules at k)) < open_entry → Learnt (pure_right rules at k) (value_of before (term_as value (pure_left rules at k))) before after
+    pub along_right : value_of before (term_as value (pure_left rules at k)) < open_entry → Learnt (pure_right rules at k) (value_of before (term_as value (pure_left rules at k))) before after
         → AlongPure value rules at k before after
-    along-right =
-        along-side (pure_left rules at k) (pure_right rules at k) (f.ready.pure_left_lem k h) (λ σ met. sym (sides-equal is σ met))
+    along_right =
+        along_side (pure_left rules at k) (pure_right rules at k) (f.ready.pure_left_lem k h) (λ σ met. sym (sides_equal is σ met))
         (λ l r. record { to_right = λ e v. r; to_left = λ e v. l })
 
-    pub along-left : value_of before (term_as value (pure_right rules at k)) < open_entry → Learnt (pure_left rules at k) (value_of before (term_as value (pure_right rules at k))) before after
+    pub along_left : value_of before (term_as value (pure_right rules at k)) < open_entry → Learnt (pure_left rules at k) (value_of before (term_as value (pure_right rules at k))) before after
         → AlongPure value rules at k before after
-    along-left =
-        along-side (pure_right rules at k) (pure_left rules at k) (f.ready.pure_right_lem k h) (sides-equal is)
+    along_left =
+        along_side (pure_right rules at k) (pure_left rules at k) (f.ready.pure_right_lem k h) (sides_equal is)
         (λ r l. record { to_right = λ e v. r; to_left = λ e v. l })

@@ -40,56 +40,56 @@ module _ (values : List ℕ) (n : ℕ) where
   known_at : (v : ℕ) → v < n → get_or (known_in values n) v (some 0) ≡ told_by (get_or values v 0)
   known_at v h = get_or-map told_by (take n values) v 0 ∙ ap told_by (get_or-take n values v 0 h)
 
-  pub has-entry : (v : ℕ) → v < n → get_or values v 0 < open_entry → get_or (known_in values n) v (some 0) ≡ some (get_or values v 0)
-  has-entry v h l = known_at v h ∙ told_value (get_or values v 0) l
+  pub has_entry : (v : ℕ) → v < n → get_or values v 0 < open_entry → get_or (known_in values n) v (some 0) ≡ some (get_or values v 0)
+  has_entry v h l = known_at v h ∙ told_value (get_or values v 0) l
 
-  pub open-entry : (v : ℕ) → v < n → open_entry ≤ get_or values v 0 → get_or (known_in values n) v (some 0) ≡ none
-  open-entry v h o = known_at v h ∙ told_open (get_or values v 0) o
+  pub open_entry_lem : (v : ℕ) → v < n → open_entry ≤ get_or values v 0 → get_or (known_in values n) v (some 0) ≡ none
+  open_entry_lem v h o = known_at v h ∙ told_open (get_or values v 0) o
 
   pub entry_has : (v x : ℕ) → v < n → get_or (known_in values n) v (some 0) ≡ some x → (get_or values v 0 < open_entry) × (get_or values v 0 ≡ x)
   entry_has v x h e = is_told (get_or values v 0) x (sym (known_at v h) ∙ e)
 
   -- every term is known where nothing is open
-  pub valued-all : (t : ℕ) → opens values ≡ 0 → Valued values t
-  valued-all t closed l = opens_none values closed t
+  pub valued_all : (t : ℕ) → opens values ≡ 0 → Valued values t
+  valued_all t closed l = opens_none values closed t
 
   module _ (value : ℕ → ℕ) (few : n ≤ 8) (t : ℕ) (byte : TermByte (λ b. value (b - 128) < open_entry) n t) where
-    known-term : known_of (known_in values n) (term_as value t) ≡ told_by (value_of values (term_as value t))
-    known-term =
+    known_term : known_of (known_in values n) (term_as value t) ≡ told_by (value_of values (term_as value t))
+    known_term =
         ⊎_elim
         (λ l. known_variable value (known_in values n) t (omega arith) ∙ known_at t l ∙ ap told_by (term_variable value values t (omega arith)))
         (λ f. known_fixed value (known_in values n) t f.0 ∙ sym (told_value (value (t - 128)) f.1) ∙ ap told_by (term_fixed value values t f.0))
         byte
 
-    pub valued-small : Valued values t → value_of values (term_as value t) < open_entry
-    valued-small h =
+    pub valued_small : Valued values t → value_of values (term_as value t) < open_entry
+    valued_small h =
         ⊎_elim (λ l. omega (arith, h (omega arith), term_variable value values t (omega arith))) (λ f. omega (arith, f.1, term_fixed value values t f.0)) byte
 
-    pub valued-has : Valued values t → Has (known_in values n) (term_as value t)
-    valued-has h = (value_of values (term_as value t), known-term ∙ told_value (value_of values (term_as value t)) (valued-small h))
+    pub valued_has : Valued values t → Has (known_in values n) (term_as value t)
+    valued_has h = (value_of values (term_as value t), known_term ∙ told_value (value_of values (term_as value t)) (valued_small h))
 
-    has-valued : Has (known_in values n) (term_as value t) → Valued values t
-    has-valued has =
+    has_valued : Has (known_in values n) (term_as value t) → Valued values t
+    has_valued has =
         let (x, e) = has in
-        small_valued value values t (is_told (value_of values (term_as value t)) x (sym known-term ∙ e)).0
+        small_valued value values t (is_told (value_of values (term_as value t)) x (sym known_term ∙ e)).0
 
   -- from one term to another
-  pub has-then : (value : ℕ → ℕ) → n ≤ 8 → {t u : ℕ} → TermByte (λ b. value (b - 128) < open_entry) n t → TermByte (λ b. value (b - 128) < open_entry) n u
+  pub has_then : (value : ℕ → ℕ) → n ≤ 8 → {t u : ℕ} → TermByte (λ b. value (b - 128) < open_entry) n t → TermByte (λ b. value (b - 128) < open_entry) n u
       → (Valued values t → Valued values u) → Has (known_in values n) (term_as value t) → Has (known_in values n) (term_as value u)
-  has-then value few {t} {u} from to leads has = valued-has value few u to (leads (has-valued value few t from has))
+  has_then value few {t} {u} from to leads has = valued_has value few u to (leads (has_valued value few t from has))
 
   -- ---- all variables
 
-  pub known-long : n ≤ length values → length (known_in values n) ≡ n
-  known-long h = length-map (take n values) told_by ∙ length-take-le n values h
+  pub known_long : n ≤ length values → length (known_in values n) ≡ n
+  known_long h = length-map (take n values) told_by ∙ length-take-le n values h
 
-  pub known-agrees : n ≤ length values → (σ : List ℕ) → length σ ≡ n → AgreesTo n values σ → Agrees (known_in values n) σ
-  known-agrees h σ long agrees v x e = step (dec_lt v n)
+  pub known_agrees : n ≤ length values → (σ : List ℕ) → length σ ≡ n → AgreesTo n values σ → Agrees (known_in values n) σ
+  known_agrees h σ long agrees v x e = step (dec_lt v n)
     where
       step : Dec (v < n) → get_or σ v 0 ≡ x
       step (yes l) = let (known, is) = entry_has v x l e in agrees v l known ∙ is
       step (no l) =
-          let past : get_or (known_in values n) v (some 0) ≡ some 0 = get_or-eq_default (known_in values n) (some 0) (omega (arith, known-long h)) in
+          let past : get_or (known_in values n) v (some 0) ≡ some 0 = get_or-eq_default (known_in values n) (some 0) (omega (arith, known_long h)) in
           let same : some 0 ≡ some x = sym past ∙ e in
           let zero_is : 0 ≡ x = cc in
           get_or-eq_default σ 0 (omega arith) ∙ zero_is

@@ -76,12 +76,12 @@ pub along_still : {n : ℕ} {Holds : List ℕ → Type 0} {Closed : List ℕ →
 along_still closed = record { keeps = λ v h. refl; agrees = λ σ holds agrees. agrees; closed = closed }
 
 module _ (n : ℕ) (Holds : ℕ → List ℕ → Type 0) (Closed : ℕ → List ℕ → List ℕ → Type 0) where
-  pub along-none : (values : List ℕ) → AlongEach 0 n Holds Closed values values
-  along-none values = along_still (λ k h. absurd (omega arith))
+  pub along_none : (values : List ℕ) → AlongEach 0 n Holds Closed values values
+  along_none values = along_still (λ k h. absurd (omega arith))
 
-  pub along-more : Stays Closed → (m : ℕ) (before middle after : List ℕ) → AlongEach m n Holds Closed before middle → Along n (Holds m) (Closed m) middle after
+  pub along_more : Stays Closed → (m : ℕ) (before middle after : List ℕ) → AlongEach m n Holds Closed before middle → Along n (Holds m) (Closed m) middle after
       → AlongEach (m + 1) n Holds Closed before after
-  along-more stays m before middle after first last = record {
+  along_more stays m before middle after first last = record {
     keeps = keeps_then before middle after first.keeps last.keeps;
     agrees = λ σ holds agrees. last.agrees σ (holds m (omega arith)) (first.agrees σ (λ k h. holds k (omega arith)) agrees);
     closed = λ k h. elim (ℕ_discrete k m) [

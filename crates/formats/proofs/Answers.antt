@@ -24,8 +24,8 @@ module _ {book snapshot question rules heap query : List ℕ} {r : Ladder} where
   pub well_formed : Read book snapshot question rules heap query r → r ≡ Accepted → WellFormedInput (input_in rules heap query)
   well_formed h q = ladder_read book snapshot question (input_in rules heap query) (is_accepted (rw q at h))
 
-  pub block-long : Read book snapshot question rules heap query r → r ≡ Accepted → length rules ≡ rule_set_size
-  block-long h q = accepted_long (rw q at h)
+  pub block_long : Read book snapshot question rules heap query r → r ≡ Accepted → length rules ≡ rule_set_size
+  block_long h q = accepted_long (rw q at h)
 
   module _ {Lends : Type 0} {Refuses : ℕ → Type 0} {Answered : Input → Type 0} where
     pub unread : {n : ℕ} → Read book snapshot question rules heap query r → r ≡ Refused n → Refuses n

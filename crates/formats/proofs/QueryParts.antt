@@ -46,31 +46,31 @@ module _ (q : List ℕ) (p k : ℕ) {bytes : List ℕ} {c₂ r : Cursor} {q₁ q
   stays : (i : ℕ) → i < first → get_or q' i 0 ≡ get_or (set (set q 0 p) 1 k) i 0
   stays i l = values.kept.same i (inl l) ∙ ap (λ (b : List ℕ). get_or b i 0) stored
 
-  pub query-kept : (i : ℕ) → 2 ≤ i → i < query_place q → get_or q' i 0 ≡ get_or q i 0
-  query-kept i l h = stays i (omega arith) ∙ get_or-set_other (set q 0 p) 1 i k 0 (λ e. omega arith) ∙ get_or-set_other q 0 i p 0 (λ e. omega arith)
+  pub query_kept : (i : ℕ) → 2 ≤ i → i < query_place q → get_or q' i 0 ≡ get_or q i 0
+  query_kept i l h = stays i (omega arith) ∙ get_or-set_other (set q 0 p) 1 i k 0 (λ e. omega arith) ∙ get_or-set_other q 0 i p 0 (λ e. omega arith)
 
-  named-is : query_predicate q' ≡ p
-  named-is = stays 0 (omega arith) ∙ get_or-set_other (set q 0 p) 1 0 k 0 (λ e. omega arith) ∙ get_or-set_same q 0 p 0 (omega arith)
+  named_is : query_predicate q' ≡ p
+  named_is = stays 0 (omega arith) ∙ get_or-set_other (set q 0 p) 1 0 k 0 (λ e. omega arith) ∙ get_or-set_same q 0 p 0 (omega arith)
 
   counted_is : query_count q' ≡ k
   counted_is = stays 1 (omega arith) ∙ get_or-set_same (set q 0 p) 1 k 0 (simp length-set (omega arith))
 
   place_is : query_place q' ≡ first
-  place_is = omega (arith, query-kept 2 (omega arith) (omega arith))
+  place_is = omega (arith, query_kept 2 (omega arith) (omega arith))
 
-  values-are : query_values q' ≡ entries q' first k
-  values-are = ap₂ (λ (n at : ℕ). entries q' at n) counted_is place_is
+  values_are : query_values q' ≡ entries q' first k
+  values_are = ap₂ (λ (n at : ℕ). entries q' at n) counted_is place_is
 
   pub query_long : length q' ≡ length q
   query_long = values.kept.long ∙ ap (λ (b : List ℕ). length b) stored ∙ simp length-set
 
-  pub query-fills : {c : Cursor} {name count : Entry} {rules : List ℕ} → Header rules → BelowBound 9 9 (get_or rules 0 0) bytes c name
+  pub query_fills : {c : Cursor} {name count : Entry} {rules : List ℕ} → Header rules → BelowBound 9 9 (get_or rules 0 0) bytes c name
       → Ranged 9 9 (get_or rules (8 + name.value) 0) (get_or rules (8 + name.value) 0) bytes name.cursor count
       → count.cursor ≡ c₂ → p ≡ name.value → k ≡ count.value → Yields (query (arities_in rules)) bytes c r (query_in q')
-  query-fills {name = name} {count} {rules} header named counted on e₀ e₁ =
+  query_fills {name = name} {count} {rules} header named counted on e₀ e₁ =
       let l : name.value < get_or rules 0 0 = named.small header.some in
       let arity : get_or rules (8 + name.value) 0 ≡ get_or (arities_in rules) name.value 0 = sym (arity_at rules name.value l) in
-      become (ap₂ as_query (sym (named-is ∙ e₀)) (ones q' first k ∙ sym values-are))
+      become (ap₂ as_query (sym (named_is ∙ e₀)) (ones q' first k ∙ sym values_are))
       (below_then 9 9 (length (arities_in rules)) _ (turn (ap (λ (n : ℕ). byte_below 9 9 n) (sym (arities_length rules))) named.reads)
       (exact_then (get_or (arities_in rules) name.value 0) _ (turn (ap (λ (m : ℕ). ranged_byte 9 9 m m) arity) (rw on at counted.reads))
       (chain _ (turn (ap (λ (m : ℕ). times m (value 9)) e₁) values.reads) (done bytes r _))))

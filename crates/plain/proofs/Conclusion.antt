@@ -6,47 +6,47 @@ use native.Mathlib.Omega.{arith}
 use Rattle.semantics.specs.{Lists.◌among◌, RuleSet.Rule, RuleSet.rule_of}
 use Rattle.semantics.specs.Plain.{Consumes, AllFixed, Plain}
 use Rattle.block.specs.Layout.{rule_as, rule_set_read, fixed_in, constants_in, rule_count, rule_place}
-use Rattle.block.proofs.RuleAs.{rules-are, rule-listed, rule-number}
+use Rattle.block.proofs.RuleAs.{rules_are, rule_listed, rule-number}
 use Rattle.plain.specs.{Fixing.AllFixedIn, Plain.RulesReadable, Plain.ConsumesIn, Plain.ExcludesLater, Plain.PlainRule}
-use Rattle.plain.proofs.{Places.placed, Places.rule-at, FixedTerms.all-fixed-here, FixedTerms.consumes_here}
+use Rattle.plain.proofs.{Places.placed, Places.rule_at_lem, FixedTerms.all_fixed_here, FixedTerms.consumes_here}
 
 module _ {given rules : List ℕ} (read : RulesReadable given rules) where
   module _ (r rule : ℕ) (h : r < rule_count rules) (e : rule ≡ rule_place r) where
     here : rule_as (fixed_in given) rules rule ≡ rule_of (rule_set_read given rules) r
-    here = rule-at read r rule h e
+    here = rule_at_lem read r rule h e
 
     pub plain_here : ConsumesIn rules rule → AllFixedIn rules rule → ExcludesLater (rule_set_read given rules) r → PlainRule (rule_set_read given rules) r
     plain_here consumes fixes excludes = record {
       consumes = subst Consumes here ((consumes_here (fixed_in given) rules rule).0 consumes);
-      all_fixed = subst (AllFixed (rule_set_read given rules)) here ((all-fixed-here read (placed read r rule h e)).0 fixes);
+      all_fixed = subst (AllFixed (rule_set_read given rules)) here ((all_fixed_here read (placed read r rule h e)).0 fixes);
       excludes = excludes;
     }
 
-    pub consumes-back : PlainRule (rule_set_read given rules) r → ConsumesIn rules rule
-    consumes-back p = (consumes_here (fixed_in given) rules rule).1 (subst Consumes (sym here) p.consumes)
+    pub consumes_back : PlainRule (rule_set_read given rules) r → ConsumesIn rules rule
+    consumes_back p = (consumes_here (fixed_in given) rules rule).1 (subst Consumes (sym here) p.consumes)
 
-    pub fixes-back : PlainRule (rule_set_read given rules) r → AllFixedIn rules rule
-    fixes-back p = (all-fixed-here read (placed read r rule h e)).1 (subst (AllFixed (rule_set_read given rules)) (sym here) p.all_fixed)
+    pub fixes_back : PlainRule (rule_set_read given rules) r → AllFixedIn rules rule
+    fixes_back p = (all_fixed_here read (placed read r rule h e)).1 (subst (AllFixed (rule_set_read given rules)) (sym here) p.all_fixed)
 
   -- a rule of the rule set has a number
   by_number : (P : Rule → Type 0) → ((r : ℕ) → r < rule_count rules → P (rule_of (rule_set_read given rules) r)) → (rule : Rule) → rule among (rule_set_read given rules).rules → P rule
   by_number P each rule m =
       let (r, h, e) = rule-number (fixed_in given) (constants_in given) rules rule m in
-      subst P (sym (e ∙ rule-at read r (rule_place r) h refl)) (each r h)
+      subst P (sym (e ∙ rule_at_lem read r (rule_place r) h refl)) (each r h)
 
-  pub plain-all : ((r : ℕ) → r < rule_count rules → PlainRule (rule_set_read given rules) r) → Plain (rule_set_read given rules)
-  plain-all each = record {
+  pub plain_all : ((r : ℕ) → r < rule_count rules → PlainRule (rule_set_read given rules) r) → Plain (rule_set_read given rules)
+  plain_all each = record {
     consuming = by_number Consumes (λ r h. (each r h).consumes);
     all_fixed = by_number (AllFixed (rule_set_read given rules)) (λ r h. (each r h).all_fixed);
-    exclusive = λ i j l h. (each i (omega (arith, rules-are (fixed_in given) (constants_in given) rules))).excludes j l h;
+    exclusive = λ i j l h. (each i (omega (arith, rules_are (fixed_in given) (constants_in given) rules))).excludes j l h;
   }
 
-  pub plain-each : Plain (rule_set_read given rules) → (r : ℕ) → r < rule_count rules → PlainRule (rule_set_read given rules) r
-  plain-each plain r h = record {
+  pub plain_each : Plain (rule_set_read given rules) → (r : ℕ) → r < rule_count rules → PlainRule (rule_set_read given rules) r
+  plain_each plain r h = record {
     consumes = plain.consuming (rule_of (rule_set_read given rules) r) listed;
     all_fixed = plain.all_fixed (rule_of (rule_set_read given rules) r) listed;
     excludes = λ j l k. plain.exclusive r j l k;
   }
     where
       listed : rule_of (rule_set_read given rules) r among (rule_set_read given rules).rules
-      listed = Memᴰ.cast (sym (rule-at read r (rule_place r) h refl)) (rule-listed (fixed_in given) (constants_in given) rules r h)
+      listed = Memᴰ.cast (sym (rule_at_lem read r (rule_place r) h refl)) (rule_listed (fixed_in given) (constants_in given) rules r h)

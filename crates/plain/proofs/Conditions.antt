@@ -4,37 +4,37 @@ use Prim.Native.Nat.{ℕ, ◌<◌}
 use Rattle.block.specs.Layout.{fixed_in, pure_count, pure_kind, pure_left, pure_right}
 use Rattle.block.specs.Ready.{variables_in, FormedRead}
 use Rattle.plain.specs.Classes.{entry_by, entries_of, Joined, Follows, Merged, EqualMet, UnequalMet}
-use Rattle.plain.proofs.{Seats.entry_image, Merging.joined-merged}
+use Rattle.plain.proofs.{Seats.entry_image, Merging.joined_merged}
 
 module _ (given rules : List ℕ) (at shared k : ℕ) {left right x y : ℕ} (is-left : left ≡ pure_left rules at k) (is_right : right ≡ pure_right rules at k) (classes : List ℕ)
     (is_x : x ≡ entry_by (fixed_in given) shared (entries_of classes) left) (is_y : y ≡ entry_by (fixed_in given) shared (entries_of classes) right) where
   abbrev sideBy : (ℕ → ℕ) → ℕ → ℕ
   sideBy σ t = entry_by (fixed_in given) shared σ t
 
-  x-left : x ≡ sideBy (entries_of classes) (pure_left rules at k)
-  x-left = is_x ∙ ap (sideBy (entries_of classes)) is-left
+  x_left : x ≡ sideBy (entries_of classes) (pure_left rules at k)
+  x_left = is_x ∙ ap (sideBy (entries_of classes)) is-left
 
-  y-right : y ≡ sideBy (entries_of classes) (pure_right rules at k)
-  y-right = is_y ∙ ap (sideBy (entries_of classes)) is_right
+  y_right : y ≡ sideBy (entries_of classes) (pure_right rules at k)
+  y_right = is_y ∙ ap (sideBy (entries_of classes)) is_right
 
-  pub entries-apart : x ≢ y → UnequalMet (fixed_in given) rules at shared k (entries_of classes)
-  entries-apart n kind e = n (x-left ∙ e ∙ sym y-right)
+  pub entries_apart : x ≢ y → UnequalMet (fixed_in given) rules at shared k (entries_of classes)
+  entries_apart n kind e = n (x_left ∙ e ∙ sym y_right)
 
   pub entries_same : x ≡ y → pure_kind rules at k ≢ 0 → ¬ UnequalMet (fixed_in given) rules at shared k (entries_of classes)
-  entries_same e n u = u n (sym x-left ∙ e ∙ y-right)
+  entries_same e n u = u n (sym x_left ∙ e ∙ y_right)
 
   module _ (f : FormedRead given rules at) (h : k < pure_count rules at) (is : pure_kind rules at k ≡ 0) where
-    left-image : (σ : ℕ → ℕ) (w : Follows σ classes) → sideBy σ (pure_left rules at k) ≡ w.image x
-    left-image σ w =
+    left_image : (σ : ℕ → ℕ) (w : Follows σ classes) → sideBy σ (pure_left rules at k) ≡ w.image x
+    left_image σ w =
         entry_image (fixed_in given) shared (variables_in rules at) (pure_left rules at k) f.ready.variables_few (f.ready.pure_left_lem k h) σ classes w
-        ∙ ap w.image (sym x-left)
+        ∙ ap w.image (sym x_left)
 
-    right-image : (σ : ℕ → ℕ) (w : Follows σ classes) → sideBy σ (pure_right rules at k) ≡ w.image y
-    right-image σ w =
+    right_image : (σ : ℕ → ℕ) (w : Follows σ classes) → sideBy σ (pure_right rules at k) ≡ w.image y
+    right_image σ w =
         entry_image (fixed_in given) shared (variables_in rules at) (pure_right rules at k) f.ready.variables_few (f.ready.pure_right_lem k h) σ classes w
-        ∙ ap w.image (sym y-right)
+        ∙ ap w.image (sym y_right)
 
-    pub equality-merged : {after : List ℕ} {ok : Bool} → Joined x y classes after ok → Merged (EqualMet (fixed_in given) rules at shared k) classes after ok
-    equality-merged {after} {ok} =
-        joined-merged (EqualMet (fixed_in given) rules at shared k) x y classes after ok (λ σ w e kind. left-image σ w ∙ e ∙ sym (right-image σ w))
-        (λ σ w met. sym (left-image σ w) ∙ met is ∙ right-image σ w)
+    pub equality_merged : {after : List ℕ} {ok : Bool} → Joined x y classes after ok → Merged (EqualMet (fixed_in given) rules at shared k) classes after ok
+    equality_merged {after} {ok} =
+        joined_merged (EqualMet (fixed_in given) rules at shared k) x y classes after ok (λ σ w e kind. left_image σ w ∙ e ∙ sym (right_image σ w))
+        (λ σ w met. sym (left_image σ w) ∙ met is ∙ right_image σ w)

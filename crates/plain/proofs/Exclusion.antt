@@ -10,11 +10,11 @@ use Rattle.words.specs.Entries.{tabulate}
 use Rattle.words.proofs.Tabulate.{tabulate-length, tabulate_at, tabulate_same, tabulate_add}
 use Rattle.block.specs.Layout.{rule_as, rule_set_read, fixed_in, constants_in, head_in, bound_in, head_arity, pure_left, pure_right}
 use Rattle.block.specs.Ready.{FormedRule, variables_in}
-use Rattle.block.proofs.RuleAs.{head-arity-is}
+use Rattle.block.proofs.RuleAs.{head_arity_is}
 use Rattle.plain.specs.Classes.{seat, entry_by, SideMet, Overlaps}
 use Rattle.plain.specs.Opposed.{Shared, Opposed, Parted}
 use Rattle.plain.specs.Plain.{RulesReadable, RulePlace}
-use Rattle.plain.proofs.{Seats.seat_shared, Seats.seat_own, Seats.entry-shared, Seats.entry_fixed, Sides.Seated, Sides.side-met, Sides.met-side}
+use Rattle.plain.proofs.{Seats.seat_shared, Seats.seat_own, Seats.entry_shared, Seats.entry_fixed, Sides.Seated, Sides.side_met, Sides.met_side}
 
 -- ---- one rule
 
@@ -23,19 +23,19 @@ module _ (value : ℕ → ℕ) {Fixed : ℕ → Type 0} (rules : List ℕ) (at s
   value_at v = σ (seat shared v)
 
   -- the values of its variables, in one list
-  values-are : tabulate (head_arity rules at) σ ++ tabulate (bound_in rules at) (λ i. value_at (head_arity rules at + i)) ≡ tabulate (variables_in rules at) value_at
-  values-are =
+  values_are : tabulate (head_arity rules at) σ ++ tabulate (bound_in rules at) (λ i. value_at (head_arity rules at + i)) ≡ tabulate (variables_in rules at) value_at
+  values_are =
       ap (λ (xs : List ℕ). xs ++ tabulate (bound_in rules at) (λ i. value_at (head_arity rules at + i)))
       (tabulate_same (head_arity rules at) σ value_at (λ v h. ap σ (sym (seat_shared shared v (omega arith)))))
       ∙ sym (tabulate_add (head_arity rules at) (bound_in rules at) value_at)
 
   -- the first of them are arguments that it allows
-  pub allows-first : SideMet value rules at shared σ → Allows (rule_as value rules at) (tabulate (head_arity rules at) σ)
-  allows-first met = record {
+  pub allows_first : SideMet value rules at shared σ → Allows (rule_as value rules at) (tabulate (head_arity rules at) σ)
+  allows_first met = record {
     bound = tabulate (bound_in rules at) (λ i. value_at (head_arity rules at + i));
     bound_counted = tabulate-length (bound_in rules at) (λ i. value_at (head_arity rules at + i));
-    meets = rw values-are
-        (met-side value rules at shared f σ (tabulate (variables_in rules at) value_at) (λ v h. sym (tabulate_at (variables_in rules at) value_at 0 v h)) met);
+    meets = rw values_are
+        (met_side value rules at shared f σ (tabulate (variables_in rules at) value_at) (λ v h. sym (tabulate_at (variables_in rules at) value_at 0 v h)) met);
   }
 
 -- ---- values of both
@@ -52,23 +52,23 @@ besides_second xs ys v = rw (le-ltb (v + 8) 8 (omega arith), besides) (ap (λ (i
 
 module _ (value : ℕ → ℕ) {Fixed : ℕ → Type 0} (rules : List ℕ) (at : ℕ) (f : FormedRule Fixed rules at) (arguments : List ℕ) (counted : length arguments ≡ head_arity rules at)
     (a : Allows (rule_as value rules at) arguments) (others : List ℕ) where
-  first-seated : Seated rules at 8 (besides (arguments ++ a.bound) others) (arguments ++ a.bound)
-  first-seated v h =
+  first_seated : Seated rules at 8 (besides (arguments ++ a.bound) others) (arguments ++ a.bound)
+  first_seated v h =
       ap (besides (arguments ++ a.bound) others) (seat_shared 8 v (omega (arith, f.ready.variables_few)))
       ∙ besides_first (arguments ++ a.bound) others v (omega (arith, f.ready.variables_few))
 
   -- the first rule's conditions are met whatever the other has
-  pub first-met : SideMet value rules at 8 (besides (arguments ++ a.bound) others)
-  first-met = side-met value rules at 8 f (besides (arguments ++ a.bound) others) (arguments ++ a.bound) first-seated a.meets
+  pub first_met : SideMet value rules at 8 (besides (arguments ++ a.bound) others)
+  first_met = side_met value rules at 8 f (besides (arguments ++ a.bound) others) (arguments ++ a.bound) first_seated a.meets
 
 module _ (value : ℕ → ℕ) {Fixed : ℕ → Type 0} (rules : List ℕ) (at other : ℕ) (f : FormedRule Fixed rules at) (o : FormedRule Fixed rules other)
     (same : head_in rules at ≡ head_in rules other) where
-  same-arity : head_arity rules at ≡ head_arity rules other
-  same-arity = ap (λ (p : ℕ). get_or rules (8 + p) 0) same
+  same_arity : head_arity rules at ≡ head_arity rules other
+  same_arity = ap (λ (p : ℕ). get_or rules (8 + p) 0) same
 
   module _ (arguments : List ℕ) (counted : length arguments ≡ head_arity rules at) (a : Allows (rule_as value rules at) arguments) (b : Allows (rule_as value rules other) arguments) where
-    second-seated : Seated rules other (head_arity rules at) (besides (arguments ++ a.bound) (arguments ++ b.bound)) (arguments ++ b.bound)
-    second-seated v h = step (dec_lt v (head_arity rules at))
+    second_seated : Seated rules other (head_arity rules at) (besides (arguments ++ a.bound) (arguments ++ b.bound)) (arguments ++ b.bound)
+    second_seated v h = step (dec_lt v (head_arity rules at))
       where
         step : Dec (v < head_arity rules at) → besides (arguments ++ a.bound) (arguments ++ b.bound) (seat (head_arity rules at) v) ≡ get_or (arguments ++ b.bound) v 0
         step (yes l) =
@@ -79,11 +79,11 @@ module _ (value : ℕ → ℕ) {Fixed : ℕ → Type 0} (rules : List ℕ) (at o
             ap (besides (arguments ++ a.bound) (arguments ++ b.bound)) (seat_own (head_arity rules at) v (omega arith))
             ∙ besides_second (arguments ++ a.bound) (arguments ++ b.bound) v
 
-    pub both-overlap : Overlaps value rules at other
-    both-overlap = record {
+    pub both_overlap : Overlaps value rules at other
+    both_overlap = record {
       σ = besides (arguments ++ a.bound) (arguments ++ b.bound);
-      first = first-met value rules at f arguments counted a (arguments ++ b.bound);
-      second = side-met value rules other (head_arity rules at) o (besides (arguments ++ a.bound) (arguments ++ b.bound)) (arguments ++ b.bound) second-seated b.meets;
+      first = first_met value rules at f arguments counted a (arguments ++ b.bound);
+      second = side_met value rules other (head_arity rules at) o (besides (arguments ++ a.bound) (arguments ++ b.bound)) (arguments ++ b.bound) second_seated b.meets;
     }
 
 -- ---- opposed conditions
@@ -91,7 +91,7 @@ module _ (value : ℕ → ℕ) {Fixed : ℕ → Type 0} (rules : List ℕ) (at o
 -- a shared term has one value in both rules
 one_value : (value σ : ℕ → ℕ) (arity t : ℕ) → arity ≤ 4 → Shared arity t → entry_by value 8 σ t ≡ entry_by value arity σ t
 one_value value σ arity t few =
-    ⊎_elim (λ l. sym (entry-shared value 8 σ t (omega arith) (omega arith)) ∙ entry-shared value arity σ t (omega arith) l)
+    ⊎_elim (λ l. sym (entry_shared value 8 σ t (omega arith) (omega arith)) ∙ entry_shared value arity σ t (omega arith) l)
     (λ g. sym (entry_fixed value 8 σ t g) ∙ entry_fixed value arity σ t g)
 
 -- two pairs of the same numbers, in either order, are equal or unequal alike
@@ -128,35 +128,35 @@ module _ {given rules : List ℕ} (read : RulesReadable given rules) {at other :
   abbrev Excluded : Type 0
   Excluded = Exclude (rule_set_read given rules) (rule_as (fixed_in given) rules at) (rule_as (fixed_in given) rules other)
 
-  arity-of : arity (rule_set_read given rules) (head_in rules at) ≡ head_arity rules at
-  arity-of = head-arity-is (fixed_in given) (constants_in given) rules read.formed at p.well
+  arity_of : arity (rule_set_read given rules) (head_in rules at) ≡ head_arity rules at
+  arity_of = head_arity_is (fixed_in given) (constants_in given) rules read.formed at p.well
 
   -- rules that do not overlap
   pub excluded : ¬ Overlaps (fixed_in given) rules at other → Excluded
-  excluded n same arguments counted a b = n (both-overlap (fixed_in given) rules at other p.formed q.formed same arguments (counted ∙ arity-of) a b)
+  excluded n same arguments counted a b = n (both_overlap (fixed_in given) rules at other p.formed q.formed same arguments (counted ∙ arity_of) a b)
 
   -- rules that do
-  pub not-excluded : head_in rules at ≡ head_in rules other → Overlaps (fixed_in given) rules at other → ¬ Excluded
-  not-excluded same w e =
+  pub not_excluded : head_in rules at ≡ head_in rules other → Overlaps (fixed_in given) rules at other → ¬ Excluded
+  not_excluded same w e =
       let arguments : List ℕ = tabulate (head_arity rules at) w.σ in
       let second : Allows (rule_as (fixed_in given) rules other) (tabulate (head_arity rules other) w.σ) =
-      allows-first (fixed_in given) rules other (head_arity rules at) q.formed w.σ (omega (arith, same-arity (fixed_in given) rules at other p.formed q.formed same)) w.second in
-      e same arguments (tabulate-length (head_arity rules at) w.σ ∙ sym arity-of)
-      (allows-first (fixed_in given) rules at 8 p.formed w.σ (omega (arith, p.formed.ready.head_arity_lem)) w.first)
-      (rw (same-arity (fixed_in given) rules at other p.formed q.formed same) second)
+      allows_first (fixed_in given) rules other (head_arity rules at) q.formed w.σ (omega (arith, same_arity (fixed_in given) rules at other p.formed q.formed same)) w.second in
+      e same arguments (tabulate-length (head_arity rules at) w.σ ∙ sym arity_of)
+      (allows_first (fixed_in given) rules at 8 p.formed w.σ (omega (arith, p.formed.ready.head_arity_lem)) w.first)
+      (rw (same_arity (fixed_in given) rules at other p.formed q.formed same) second)
 
   -- a rule that nothing meets
-  pub unmet-excluded : ((σ : ℕ → ℕ) → ¬ SideMet (fixed_in given) rules at 8 σ) → Excluded
-  unmet-excluded never same arguments counted a b =
-      never (besides (arguments ++ a.bound) arguments) (first-met (fixed_in given) rules at p.formed arguments (counted ∙ arity-of) a arguments)
+  pub unmet_excluded : ((σ : ℕ → ℕ) → ¬ SideMet (fixed_in given) rules at 8 σ) → Excluded
+  unmet_excluded never same arguments counted a b =
+      never (besides (arguments ++ a.bound) arguments) (first_met (fixed_in given) rules at p.formed arguments (counted ∙ arity_of) a arguments)
 
   -- rules that are told apart at a glance, and others
-  pub parted-excluded : {told : Bool} → Parted rules at other told → told ≡ true → Excluded
-  parted-excluded (Parted.heads t n) e = λ same. absurd (n same)
-  parted-excluded (Parted.opposed t k o) e = excluded (opposed_apart (fixed_in given) rules at other k p.formed.ready.head_arity_lem o)
-  parted-excluded (Parted.unknown f same) e = absurd (false≢true (sym f ∙ e))
+  pub parted_excluded : {told : Bool} → Parted rules at other told → told ≡ true → Excluded
+  parted_excluded (Parted.heads t n) e = λ same. absurd (n same)
+  parted_excluded (Parted.opposed t k o) e = excluded (opposed_apart (fixed_in given) rules at other k p.formed.ready.head_arity_lem o)
+  parted_excluded (Parted.unknown f same) e = absurd (false≢true (sym f ∙ e))
 
-  pub not-parted : {told : Bool} → Parted rules at other told → told ≡ false → head_in rules at ≡ head_in rules other
-  not-parted (Parted.heads t n) e = absurd (false≢true (sym e ∙ t))
-  not-parted (Parted.opposed t k o) e = absurd (false≢true (sym e ∙ t))
-  not-parted (Parted.unknown f same) e = same
+  pub not_parted : {told : Bool} → Parted rules at other told → told ≡ false → head_in rules at ≡ head_in rules other
+  not_parted (Parted.heads t n) e = absurd (false≢true (sym e ∙ t))
+  not_parted (Parted.opposed t k o) e = absurd (false≢true (sym e ∙ t))
+  not_parted (Parted.unknown f same) e = same

@@ -35,8 +35,8 @@ moved_other x y = step (ℕ_discrete y x)
 -- ---- replacing
 
 module _ (x y : ℕ) (label : open_entry ≤ x) (before after : List ℕ) (r : Replaced x y before after) (σ : ℕ → ℕ) where
-  pub replaced-out : Follows σ after → (f : Follows σ before) × (f.image x ≡ f.image y)
-  replaced-out f = (
+  pub replaced_out : Follows σ after → (f : Follows σ before) × (f.image x ≡ f.image y)
+  replaced_out f = (
     record {
       image = λ z. f.image (moved x y z);
       fixes = λ z h. ap f.image (moved_miss x y z (λ e. omega arith)) ∙ f.fixes z h;
@@ -45,8 +45,8 @@ module _ (x y : ℕ) (label : open_entry ≤ x) (before after : List ℕ) (r : R
     ap f.image (moved_hit x y x refl ∙ sym (moved_other x y)),
   )
 
-  pub replaced-in : (f : Follows σ before) → f.image x ≡ f.image y → Follows σ after
-  replaced-in f e = record {
+  pub replaced_in : (f : Follows σ before) → f.image x ≡ f.image y → Follows σ after
+  replaced_in f e = record {
     image = f.image;
     fixes = f.fixes;
     is = λ v h. f.is v h ∙ sym (ap f.image (r v h) ∙ moved_image f.image x y e (entries_of before v));
@@ -57,20 +57,20 @@ module _ (x y : ℕ) (label : open_entry ≤ x) (before after : List ℕ) (r : R
 -- The values that give two entries one value.
 module _ (Met : (ℕ → ℕ) → Type 0) (x y : ℕ) (before after : List ℕ) (ok : Bool)
     (gives : (σ : ℕ → ℕ) (f : Follows σ before) → f.image x ≡ f.image y → Met σ) (asks : (σ : ℕ → ℕ) (f : Follows σ before) → Met σ → f.image x ≡ f.image y) where
-  pub joined-merged : Joined x y before after ok → Merged Met before after ok
-  joined-merged (Joined.same t e s) =
+  pub joined_merged : Joined x y before after ok → Merged Met before after ok
+  joined_merged (Joined.same t e s) =
       Merged.merged t
       (λ σ f. let f' : Follows σ before = rw s at f in (f', gives σ f' (ap f'.image e)))
       (λ σ f m. rw s f)
-  joined-merged (Joined.left t label r) =
+  joined_merged (Joined.left t label r) =
       Merged.merged t
-      (λ σ f. let (f', e) = replaced-out x y label before after r σ f in (f', gives σ f' e))
-      (λ σ f m. replaced-in x y label before after r σ f (asks σ f m))
-  joined-merged (Joined.right t label r) =
+      (λ σ f. let (f', e) = replaced_out x y label before after r σ f in (f', gives σ f' e))
+      (λ σ f m. replaced_in x y label before after r σ f (asks σ f m))
+  joined_merged (Joined.right t label r) =
       Merged.merged t
-      (λ σ f. let (f', e) = replaced-out y x label before after r σ f in (f', gives σ f' (sym e)))
-      (λ σ f m. replaced-in y x label before after r σ f (sym (asks σ f m)))
-  joined-merged (Joined.clash t small few n) =
+      (λ σ f. let (f', e) = replaced_out y x label before after r σ f in (f', gives σ f' (sym e)))
+      (λ σ f m. replaced_in y x label before after r σ f (sym (asks σ f m)))
+  joined_merged (Joined.clash t small few n) =
       Merged.never t (λ σ f m. n (sym (f.fixes x small) ∙ asks σ f m ∙ f.fixes y few))
 
 -- ---- conditions one after the other
@@ -94,16 +94,16 @@ merged_not t (Merged.never s n) = n
 
 module _ {Met Next All : (ℕ → ℕ) → Type 0} (first : (σ : ℕ → ℕ) → All σ → Met σ) (second : (σ : ℕ → ℕ) → All σ → Next σ) {before middle : List ℕ}
     (so_far : MergedTo Met before middle) {after : List ℕ} {ok : Bool} where
-  pub merged-more : ((σ : ℕ → ℕ) → Met σ → Next σ → All σ) → ok ≡ true → Merged Next middle after ok → MergedTo All before after
-  merged-more both t (Merged.merged s out into) = record {
+  pub merged_more : ((σ : ℕ → ℕ) → Met σ → Next σ → All σ) → ok ≡ true → Merged Next middle after ok → MergedTo All before after
+  merged_more both t (Merged.merged s out into) = record {
     out = λ σ f. let (g, n) = out σ f in let (h, m) = so_far.out σ g in (h, both σ m n);
     into = λ σ f a. into σ (so_far.into σ f (first σ a)) (second σ a);
   }
-  merged-more both t (Merged.never s n) = absurd (false≢true (sym s ∙ t))
+  merged_more both t (Merged.never s n) = absurd (false≢true (sym s ∙ t))
 
-  pub merged-never : ok ≡ false → Merged Next middle after ok → (σ : ℕ → ℕ) → Follows σ before → ¬ All σ
-  merged-never t (Merged.merged s out into) = absurd (false≢true (sym t ∙ s))
-  merged-never t (Merged.never s n) = λ σ f a. n σ (so_far.into σ f (first σ a)) (second σ a)
+  pub merged_never : ok ≡ false → Merged Next middle after ok → (σ : ℕ → ℕ) → Follows σ before → ¬ All σ
+  merged_never t (Merged.merged s out into) = absurd (false≢true (sym t ∙ s))
+  merged_never t (Merged.never s n) = λ σ f a. n σ (so_far.into σ f (first σ a)) (second σ a)
 
 -- ---- the beginning and the end
 
@@ -116,11 +116,11 @@ pub fresh_follows : (classes : List ℕ) → Fresh classes → (σ : ℕ → ℕ
 fresh_follows classes fresh σ = record {
   image = named_by σ;
   fixes = λ x h. rw (lt-ltb x open_entry h, named_by) refl;
-  is = λ v h. sym (ap (named_by σ) (fresh.labelled v h) ∙ named-label v);
+  is = λ v h. sym (ap (named_by σ) (fresh.labelled v h) ∙ named_label v);
 }
   where
-    named-label : (v : ℕ) → named_by σ (open_entry + v) ≡ σ v
-    named-label v = rw (le-ltb (open_entry + v) open_entry (omega arith), named_by) (ap σ (omega arith))
+    named_label : (v : ℕ) → named_by σ (open_entry + v) ≡ σ v
+    named_label v = rw (le-ltb (open_entry + v) open_entry (omega arith), named_by) (ap σ (omega arith))
 
 -- the entries follow themselves
 pub self_follows : (classes : List ℕ) → Follows (entries_of classes) classes

@@ -23,18 +23,18 @@ unmet_alone given rules at f classes is n σ met = n (unequals_back given rules 
 
 module _ (given rules : List ℕ) (at other : ℕ) (f : FormedRead given rules at) (o : FormedRead given rules other) (classes both : List ℕ) (is : ClassesOf (fixed_in given) rules at classes) where
   -- the second rule's equalities cannot be merged
-  pub never-overlap : ((σ : ℕ → ℕ) → Follows σ classes → ¬ EqualsMet (fixed_in given) rules other (head_arity rules at) (pure_count rules other) σ) → ¬ Overlaps (fixed_in given) rules at other
-  never-overlap never w = never w.σ ((is w.σ).1 w.first.equals) w.second.equals
+  pub never_overlap : ((σ : ℕ → ℕ) → Follows σ classes → ¬ EqualsMet (fixed_in given) rules other (head_arity rules at) (pure_count rules other) σ) → ¬ Overlaps (fixed_in given) rules at other
+  never_overlap never w = never w.σ ((is w.σ).1 w.first.equals) w.second.equals
 
   module _ (m : MergedTo (EqualsMet (fixed_in given) rules other (head_arity rules at) (pure_count rules other)) classes both) where
     follows_both : (w : Overlaps (fixed_in given) rules at other) → Follows w.σ both
     follows_both w = m.into w.σ ((is w.σ).1 w.first.equals) w.second.equals
 
-    pub first-apart : Overlaps (fixed_in given) rules at other → UnequalsMet (fixed_in given) rules at 8 (pure_count rules at) (entries_of both)
-    first-apart w = unequals_back given rules at 8 f w.σ both (follows_both w) w.first.unequals
+    pub first_apart : Overlaps (fixed_in given) rules at other → UnequalsMet (fixed_in given) rules at 8 (pure_count rules at) (entries_of both)
+    first_apart w = unequals_back given rules at 8 f w.σ both (follows_both w) w.first.unequals
 
-    pub second-apart : Overlaps (fixed_in given) rules at other → UnequalsMet (fixed_in given) rules other (head_arity rules at) (pure_count rules other) (entries_of both)
-    second-apart w = unequals_back given rules other (head_arity rules at) o w.σ both (follows_both w) w.second.unequals
+    pub second_apart : Overlaps (fixed_in given) rules at other → UnequalsMet (fixed_in given) rules other (head_arity rules at) (pure_count rules other) (entries_of both)
+    second_apart w = unequals_back given rules other (head_arity rules at) o w.σ both (follows_both w) w.second.unequals
 
     pub overlaps : UnequalsMet (fixed_in given) rules at 8 (pure_count rules at) (entries_of both)
         → UnequalsMet (fixed_in given) rules other (head_arity rules at) (pure_count rules other) (entries_of both) → Overlaps (fixed_in given) rules at other

@@ -44,23 +44,23 @@ module _ (value : ℕ → ℕ) {Fixed : ℕ → Type 0} (rules : List ℕ) (at s
   left-value : (k : ℕ) → k < pure_count rules at → entry_by value shared σ (pure_left rules at k) ≡ value_of τ (term_as value (pure_left rules at k))
   left-value k h = entry_value (pure_left rules at k) (f.ready.pure_left_lem k h)
 
-  right-value : (k : ℕ) → k < pure_count rules at → entry_by value shared σ (pure_right rules at k) ≡ value_of τ (term_as value (pure_right rules at k))
-  right-value k h = entry_value (pure_right rules at k) (f.ready.pure_right_lem k h)
+  right_value : (k : ℕ) → k < pure_count rules at → entry_by value shared σ (pure_right rules at k) ≡ value_of τ (term_as value (pure_right rules at k))
+  right_value k h = entry_value (pure_right rules at k) (f.ready.pure_right_lem k h)
 
-  pub side-met : ((p : Pure) → p among (rule_as value rules at).pures → Meets τ p) → SideMet value rules at shared σ
-  side-met meets = record {
-    equals = λ k h e. left-value k h ∙ (rw (compare_equal (pure_kind rules at k) _ _ e) at (met k h)) ∙ sym (right-value k h);
-    unequals = λ k h n e. (rw (compare_unequal (pure_kind rules at k) _ _ n) at (met k h)) (sym (left-value k h) ∙ e ∙ right-value k h);
+  pub side_met : ((p : Pure) → p among (rule_as value rules at).pures → Meets τ p) → SideMet value rules at shared σ
+  side_met meets = record {
+    equals = λ k h e. left-value k h ∙ (rw (compare_equal (pure_kind rules at k) _ _ e) at (met k h)) ∙ sym (right_value k h);
+    unequals = λ k h n e. (rw (compare_unequal (pure_kind rules at k) _ _ n) at (met k h)) (sym (left-value k h) ∙ e ∙ right_value k h);
   }
     where
       met : (k : ℕ) → k < pure_count rules at
           → Compare (kind_in (pure_kind rules at k)) (value_of τ (term_as value (pure_left rules at k))) (value_of τ (term_as value (pure_right rules at k)))
       met k h = meets (pure_as value rules (pure_place at k)) (tabulate_in (pure_count rules at) (λ i. pure_as value rules (pure_place at i)) k h)
 
-  pub met-side : SideMet value rules at shared σ → (p : Pure) → p among (rule_as value rules at).pures → Meets τ p
-  met-side s p m =
+  pub met_side : SideMet value rules at shared σ → (p : Pure) → p among (rule_as value rules at).pures → Meets τ p
+  met_side s p m =
       let (k, h, e) = tabulate_out (pure_count rules at) (λ i. pure_as value rules (pure_place at i)) p m in
       rw e
       (compare_in (pure_kind rules at k) (value_of τ (term_as value (pure_left rules at k))) (value_of τ (term_as value (pure_right rules at k)))
-      (λ q. sym (left-value k h) ∙ s.equals k h q ∙ right-value k h)
-      (λ n q. s.unequals k h n (left-value k h ∙ q ∙ sym (right-value k h))))
+      (λ q. sym (left-value k h) ∙ s.equals k h q ∙ right_value k h)
+      (λ n q. s.unequals k h n (left-value k h ∙ q ∙ sym (right_value k h))))

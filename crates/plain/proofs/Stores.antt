@@ -22,15 +22,15 @@ pub record ReplacedTo (x y : ℕ) (before after : List ℕ) (i : ℕ) : Type 0 w
   pub rest : (j : ℕ) → i ≤ j → get_or after j 0 ≡ get_or before j 0
 
 module _ (x y : ℕ) (before after : List ℕ) (i : ℕ) (r : ReplacedTo x y before after i) where
-  pub replaced-hit : i < 16 → get_or after i 0 ≡ x → ReplacedTo x y before (set after i y) (i + 1)
-  replaced-hit h e = record {
+  pub replaced_hit : i < 16 → get_or after i 0 ≡ x → ReplacedTo x y before (set after i y) (i + 1)
+  replaced_hit h e = record {
     long = length-set after i y ∙ r.long;
     done = stored (λ j z. z ≡ moved x y (get_or before j 0)) after i y (omega (arith, r.long)) (sym (moved_hit x y (get_or before i 0) (sym (r.rest i (omega arith)) ∙ e))) r.done;
     rest = λ j l. get_or-set_other after i j y 0 (λ q. omega arith) ∙ r.rest j (omega arith);
   }
 
-  pub replaced-miss : get_or after i 0 ≢ x → ReplacedTo x y before after (i + 1)
-  replaced-miss n = record { long = r.long; done = λ j l. step j l (ℕ_discrete j i); rest = λ j l. r.rest j (omega arith) }
+  pub replaced_miss : get_or after i 0 ≢ x → ReplacedTo x y before after (i + 1)
+  replaced_miss n = record { long = r.long; done = λ j l. step j l (ℕ_discrete j i); rest = λ j l. r.rest j (omega arith) }
     where
       step : (j : ℕ) → j < i + 1 → Dec (j ≡ i) → get_or after j 0 ≡ moved x y (get_or before j 0)
       step j l (yes e) = rw e (r.rest i (omega arith) ∙ sym (moved_miss x y (get_or before i 0) (λ q. n (r.rest i (omega arith) ∙ q))))

@@ -56,19 +56,19 @@ module _ (α : NamedLft) where
   pub parts_are : (d : Reader) (u : Val) → Is row d (u ∷ []) → IsBytes d.bytes × IsCursor d.at
   parts_are d u is = let fields = struct_laws.owed (reader.the_type α) (reader-laws.the_laws α) d (u ∷ []) is in (fields.0, fields.1.0)
 
-  pub reader-told : (d : Reader) (u : Val) → Is row d (u ∷ []) → u ≡ reader_val d.bytes d.at
-  reader-told d u is = ap only (struct_laws.tells (reader.the_type α) (reader-laws.the_laws α) d (u ∷ []) is)
+  pub reader_told : (d : Reader) (u : Val) → Is row d (u ∷ []) → u ≡ reader_val d.bytes d.at
+  reader_told d u is = ap only (struct_laws.tells (reader.the_type α) (reader-laws.the_laws α) d (u ∷ []) is)
 
   module _ {M : Type 1} {𝓤 : Ura M} (𝓛 : Logic 𝓤) where
-    pub cursor-typed : (c : Cursor) → IsCursor c → Holds (has_ty cursor-laws.mir (cursor_val c)) × WT (cursor_val c)
-    cursor-typed c is = ((enum_laws.lawful cursor.the_type cursor-laws.the_laws 𝓛 tt).typed c (cursor_val c ∷ []) is).0
+    pub cursor_typed : (c : Cursor) → IsCursor c → Holds (has_ty cursor-laws.mir (cursor_val c)) × WT (cursor_val c)
+    cursor_typed c is = ((enum_laws.lawful cursor.the_type cursor-laws.the_laws 𝓛 tt).typed c (cursor_val c ∷ []) is).0
 
-    pub reader-typed : (d : Reader) (u : Val) → Is row d (u ∷ []) → Holds (has_ty (reader-laws.mir α.mir) u) × WT u
-    reader-typed d u is = ((struct_laws.lawful (reader.the_type α) (reader-laws.the_laws α) 𝓛).typed d (u ∷ []) is).0
+    pub reader_typed : (d : Reader) (u : Val) → Is row d (u ∷ []) → Holds (has_ty (reader-laws.mir α.mir) u) × WT u
+    reader_typed d u is = ((struct_laws.lawful (reader.the_type α) (reader-laws.the_laws α) 𝓛).typed d (u ∷ []) is).0
 
-    pub made-typed : (s : Bor (List ℕ)) (c : Cursor) → IsBytes s → IsCursor c → Holds (has_ty (reader-laws.mir α.mir) (reader_val s c)) × WT (reader_val s c)
-    made-typed s c p q =
-        let d : Reader = record { bytes = s; at = c } in reader-typed d (reader_val s c) (struct_laws.owes (reader.the_type α) (reader-laws.the_laws α) d (p, (q, tt)))
+    pub made_typed : (s : Bor (List ℕ)) (c : Cursor) → IsBytes s → IsCursor c → Holds (has_ty (reader-laws.mir α.mir) (reader_val s c)) × WT (reader_val s c)
+    made_typed s c p q =
+        let d : Reader = record { bytes = s; at = c } in reader_typed d (reader_val s c) (struct_laws.owes (reader.the_type α) (reader-laws.the_laws α) d (p, (q, tt)))
 
     pub apart : (d : Reader) (u : Val) → ent 𝓤 (sem 𝓛 (row.own_val d (u ∷ [])))
         (sep 𝓤 (sem 𝓛 (Bytes.own d.bytes (slice_of d.bytes ∷ []))) (sem 𝓛 (Bytes.own d.bytes (slice_of d.bytes ∷ []))))

@@ -50,14 +50,14 @@ module _ {S A : Type 0} (read : S → Reader A) (next : A → S) where
       step (got a rest) h = ap (λ (g : Got (List A)). onward g (λ rest. give (a ∷ rest))) (h a rest) ∙ middle s a (threaded n (next a) read next rest)
       step (fault m) h = refl
 
-  pub threaded-none : (bytes : List ℕ) (c : Cursor) (s : S) → Yields (threaded 0 s read next) bytes c c []
+  pub threaded_none : (bytes : List ℕ) (c : Cursor) (s : S) → Yields (threaded 0 s read next) bytes c c []
   unfolding threaded
-  threaded-none bytes c s = done bytes c []
+  threaded_none bytes c s = done bytes c []
 
-  pub threaded-more : {bytes : List ℕ} {c₀ c c' : Cursor} (k : ℕ) (s : S) (xs : List A) (x : A)
+  pub threaded_more : {bytes : List ℕ} {c₀ c c' : Cursor} (k : ℕ) (s : S) (xs : List A) (x : A)
       → Yields (threaded k s read next) bytes c₀ c xs → Yields (read (left s next xs)) bytes c c' x
       → Yields (threaded (suc k) s read next) bytes c₀ c' (xs ++ (x ∷ []))
-  threaded-more {bytes} {c₀} {c} {c'} k s xs x h e = alike _ (last k s) (chain (then s) h (chain _ e (done bytes c' _)))
+  threaded_more {bytes} {c₀} {c} {c'} k s xs x h e = alike _ (last k s) (chain (then s) h (chain _ e (done bytes c' _)))
 
 module _ {A : Type 0} (read : Reader A) where
   times-threaded : (n : ℕ) → threaded n (tt {0}) (λ _. read) (λ _. tt {0}) ≡ times n read
@@ -66,12 +66,12 @@ module _ {A : Type 0} (read : Reader A) where
   times-threaded (suc n) = ap (λ (more : Reader (List A)). ◌>>=◌ read (λ a. ◌>>=◌ more (λ rest. give (a ∷ rest)))) (times-threaded n)
 
   pub times_none : (bytes : List ℕ) (c : Cursor) → Yields (times 0 read) bytes c c []
-  times_none bytes c = turn (times-threaded 0) (threaded-none (λ (_ : Unit {0}). read) (λ _. tt {0}) bytes c (tt {0}))
+  times_none bytes c = turn (times-threaded 0) (threaded_none (λ (_ : Unit {0}). read) (λ _. tt {0}) bytes c (tt {0}))
 
   pub times_more : {bytes : List ℕ} {c₀ c c' : Cursor} (k : ℕ) (xs : List A) (x : A)
       → Yields (times k read) bytes c₀ c xs → Yields read bytes c c' x → Yields (times (suc k) read) bytes c₀ c' (xs ++ (x ∷ []))
   times_more k xs x h e =
-      turn (times-threaded (suc k)) (threaded-more (λ (_ : Unit {0}). read) (λ _. tt {0}) k (tt {0}) xs x (turn (sym (times-threaded k)) h) e)
+      turn (times-threaded (suc k)) (threaded_more (λ (_ : Unit {0}). read) (λ _. tt {0}) k (tt {0}) xs x (turn (sym (times-threaded k)) h) e)
 
 -- a count in its range, and then what it counts
 pub ranged_then : {A : Type 0} {bytes : List ℕ} {c c₁ c₂ : Cursor} {m : ℕ} {a : A} (short range most : ℕ) (next : ℕ → Reader A)

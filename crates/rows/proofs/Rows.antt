@@ -13,9 +13,9 @@ use Rattle.semantics.specs.{Fact.position, Fact.code, Fact.fact, Rounds.After, C
 use Rattle.rows.specs.Rows.{Row, RowTrue, Verdict, LinesShown, LastShown, rows, constant_rows, mark_rows}
 use Rattle.semantics.proofs.{DomainFacts.member_true, DomainFacts.member_out, Verdict.verdict, Verdict.fits_whole, FormatsFacts.ladder_read}
 use Rattle.semantics.proofs.Evaluator.{when, both, every, same_list, same_record, assignments, compares, meets_all, finds, takings, answers, callings, joined, byFacts, byRecords, byTest, byValues, byArguments, byRule, steps, following, drop_known, newFacts, run, Run}
-use Rattle.semantics.proofs.Evaluation.{both_out, every_out, Done, run-done}
-use Rattle.semantics.proofs.LineCount.{ways, leave, is_empty, is_some, avoids, exactly, line-count}
-use Rattle.semantics.proofs.Existence.{trimmed-exists}
+use Rattle.semantics.proofs.Evaluation.{both_out, every_out, Done, run_done}
+use Rattle.semantics.proofs.LineCount.{ways, leave, is_empty, is_some, avoids, exactly, line_count}
+use Rattle.semantics.proofs.Existence.{trimmed_exists}
 
 same_bool : Bool → Bool → Bool
 same_bool true b = b
@@ -60,8 +60,8 @@ lines_of : (b : Bool) (lines : ℕ) (i : Input) {r : ℕ} (table : List ℕ) →
 unfolding test_lines
 lines_of true lines i table h fits c e =
     let (few, e') = both_out (leb (length table) 65535) (exactly (steps i.rule_set i.heap (domain_of i) table) lines (asked i ∷ []) []) e in (
-      trimmed-exists i.rule_set i.heap i.predicate i.values (whole_of i.heap) h.valid (fits_whole fits) c.after c.complete (leb-true (length table) 65535 few),
-      λ words u. line-count i.rule_set i.heap i.predicate i.values words u table c.complete lines e',
+      trimmed_exists i.rule_set i.heap i.predicate i.values (whole_of i.heap) h.valid (fits_whole fits) c.after c.complete (leb-true (length table) 65535 few),
+      λ words u. line_count i.rule_set i.heap i.predicate i.values words u table c.complete lines e',
     )
 lines_of false lines i table h fits c e = eqb-true lines 0 e
 
@@ -85,7 +85,7 @@ row_true row i is_read e =
     let (ls, e₅) = both_out (test_lines row.fits row.lines i r.table) _ e₄ in
     let (la, e₆) = both_out (test_last row.last r.table) _ e₅ in
     let h = ladder_read row.book row.snapshot row.question i is_read in
-    let done : Done i.rule_set i.heap (domain_of i) r = run-done i.rule_set i.heap (domain_of i) 9 0 [] After.start fin in
+    let done : Done i.rule_set i.heap (domain_of i) r = run_done i.rule_set i.heap (domain_of i) 9 0 [] After.start fin in
     let q : r.rounds ≡ row.rounds = eqb-true r.rounds row.rounds rs in
     let c : CompletedInput i row.rounds r.table = record { after = rw q at done.after; complete = done.complete } in
     let iff = verdict i.rule_set i.heap i.values h.valid i.predicate h.counted done.after done.complete in

@@ -8,7 +8,7 @@ use native.Mathlib.Omega.{arith}
 use lib.ListN.{length, get_or, length-append}
 use Rattle.semantics.specs.{RuleSet.var, RuleSet.unequal, RuleSet.Pure, RuleSet.Rule, RuleSet.RuleSet, RuleSet.arity, Heap.Joins, Tree.Takes, Fact.fact}
 use Rattle.semantics.specs.{Rounds.Called, Rounds.Ground, Placed.upto}
-use Rattle.semantics.proofs.{Coding.get_d_in, Placed.below-upto, Placed.in-upto}
+use Rattle.semantics.proofs.{Coding.get_d_in, Placed.below_upto, Placed.in_upto}
 
 abbrev pub differ : Pure
 differ = record { kind = unequal; left = var 0; right = var 1 }
@@ -24,7 +24,7 @@ none_without_spare called f g =
     let e : g.rule ≡ other = ⊎_elim (λ (q : g.rule ≡ other). q) (λ k. absurd (Memᴰ.not-nil k)) (Memᴰ.cases_cons g.applies.listed) in
     let σ : List ℕ = g.arguments ++ g.bound in
     let l : length σ ≡ 2 = length-append g.arguments g.bound ∙ two e in
-    let low : (i : ℕ) → i < 2 → get_or σ i 0 < 1 = λ i h. below-upto 1 (get_or σ i 0) (g.keeps (get_or σ i 0) (get_d_in σ i (omega (arith, l)))) in
+    let low : (i : ℕ) → i < 2 → get_or σ i 0 < 1 = λ i h. below_upto 1 (get_or σ i 0) (g.keeps (get_or σ i 0) (get_d_in σ i (omega (arith, l)))) in
     g.applies.meets differ (rw e (Memᴰ.head refl)) (omega (arith, low 0 (omega arith), low 1 (omega arith)))
   where
     two : g.rule ≡ other → length g.arguments + length g.bound ≡ 2
@@ -44,7 +44,7 @@ one_with_spare = record {
     meets = λ pure m. ⊎_elim (λ (e : pure ≡ differ). rw e (λ z. omega (arith, z))) (λ k. absurd (Memᴰ.not-nil k)) (Memᴰ.cases_cons m);
     takes = Takes.none;
   };
-  keeps = λ v m. in-upto 2 v (⊎_elim (λ e. omega arith) (λ k. ⊎_elim (λ e. omega arith) (λ n. absurd (Memᴰ.not-nil n)) (Memᴰ.cases_cons k)) (Memᴰ.cases_cons m));
+  keeps = λ v m. in_upto 2 v (⊎_elim (λ e. omega arith) (λ k. ⊎_elim (λ e. omega arith) (λ n. absurd (Memᴰ.not-nil n)) (Memᴰ.cases_cons k)) (Memᴰ.cases_cons m));
   calls = Called.none;
   joins = Joins.none;
   is_fact = refl;

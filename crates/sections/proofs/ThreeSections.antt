@@ -9,21 +9,21 @@ use Rattle.semantics.specs.declared.Reply.{Reply}
 use Rattle.sections.specs.Sections.{Splits}
 
 module _ (input : List ℕ) {from upto from' upto' from'' upto'' : ℕ} (s : Splits input from upto from' upto' from'' upto'') where
-  pub snapshot-bytes : take (upto' - from') (drop from' input) ≡ snapshot_section input
-  snapshot-bytes = s.snapshot.bytes ∙ ap first_section s.book.after
+  pub snapshot_bytes : take (upto' - from') (drop from' input) ≡ snapshot_section input
+  snapshot_bytes = s.snapshot.bytes ∙ ap first_section s.book.after
 
-  pub question-bytes : take (upto'' - from'') (drop from'' input) ≡ question_section input
-  question-bytes = s.question.bytes ∙ ap first_section (s.snapshot.after ∙ ap other_sections s.book.after)
+  pub question_bytes : take (upto'' - from'') (drop from'' input) ≡ question_section input
+  question_bytes = s.question.bytes ∙ ap first_section (s.snapshot.after ∙ ap other_sections s.book.after)
 
   -- an empty section stands for the house book
-  pub book-house : from ≡ upto → book_section input ≡ house
-  book-house e =
+  pub book_house : from ≡ upto → book_section input ≡ house
+  book_house e =
       let z : upto - from ≡ 0 = omega arith in
       ap book_or (sym s.book.bytes ∙ ap (λ (n : ℕ). take n (drop from input)) z)
 
   -- any other for itself
-  pub book-own : from < upto → take (upto - from) (drop from input) ≡ book_section input
-  book-own l = own (take (upto - from) (drop from input)) (omega (arith, s.book.within, length-drop from input, length-take-le (upto - from) (drop from input) (omega (arith, s.book.within, length-drop from input)))) ∙ ap book_or s.book.bytes
+  pub book_own : from < upto → take (upto - from) (drop from input) ≡ book_section input
+  book_own l = own (take (upto - from) (drop from input)) (omega (arith, s.book.within, length-drop from input, length-take-le (upto - from) (drop from input) (omega (arith, s.book.within, length-drop from input)))) ∙ ap book_or s.book.bytes
     where
       own : (bytes : List ℕ) → 0 < length bytes → bytes ≡ book_or bytes
       own [] h = absurd (omega arith)

@@ -45,10 +45,10 @@ bit_add_other m (suc i) (suc j) h n =
     ap (λ (k : ℕ). bit k j) (omega (arith, pow-suc 2 i)) ∙ bit_add_other (m / 2) i j h (λ e. n (ap suc e))
 
 -- the bits of a conjunction
-pub bit_and : (a b i : ℕ) → bit (bit_and a b) i ≡ min (bit a i) (bit b i)
+pub bit_and_lem : (a b i : ℕ) → bit (bit_and a b) i ≡ min (bit a i) (bit b i)
 unfolding bit
-bit_and a b zero = omega (arith, and_step a b)
-bit_and a b (suc i) = ap (λ (k : ℕ). bit k i) (omega (arith, and_step a b)) ∙ bit_and (a / 2) (b / 2) i
+bit_and_lem a b zero = omega (arith, and_step a b)
+bit_and_lem a b (suc i) = ap (λ (k : ℕ). bit k i) (omega (arith, and_step a b)) ∙ bit_and_lem (a / 2) (b / 2) i
 
 -- a number that is not 0 has a bit that is one
 some_bit_fuel : (n fuel : ℕ) → n ≤ fuel → n ≢ 0 → (i : ℕ) × (bit n i ≡ 1)

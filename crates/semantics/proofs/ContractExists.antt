@@ -5,8 +5,8 @@ use native.Mathlib.{Omega.arith, Decide.ℕ_discrete, Decide.dec_lt}
 use lib.ListN.{length}
 use Rattle.semantics.specs.{Lists.zeros, Heap.whole_of, Formats.Input, Formats.ladder, Formats.WellFormedInput, Refusals.too_many_facts}
 use Rattle.semantics.specs.Contract.{domain_of, FitsInput, FitsPart, CertificatePart, Lent, CompletedInput, padded, refusal_reply, Refuses, Answers, Decided, Checks, CheckedFor}
-use Rattle.semantics.proofs.{DomainFacts.domain-ascending, DomainFacts.domain-length, FormatsFacts.ladder_read, Verdict.fits_whole, Existence.trimmed-exists}
-use Rattle.semantics.proofs.{Reached.completed_exists, Reached.more_facts, Reached.fits_decided, CertificateTest.takes, Taking.takes-exact}
+use Rattle.semantics.proofs.{DomainFacts.domain-ascending, DomainFacts.domain-length, FormatsFacts.ladder_read, Verdict.fits_whole, Existence.trimmed_exists}
+use Rattle.semantics.proofs.{Reached.completed_exists, Reached.more_facts, Reached.fits_decided, CertificateTest.takes, Taking.takes_exact}
 use Rattle.semantics.proofs.ServedFacts.{serves}
 use Rattle.semantics.specs.declared.{Reply.Reply, CheckReply.CheckReply}
 
@@ -42,10 +42,10 @@ answer_exists i h n l {Yes} part decided =
     )
     step r xs c (no m) (inr f) = (
       record { reply = record { refusal = 0; verdict = 0; facts = length xs; rounds = r; lines = 0 }; table = padded n xs; space = zeros (3 * n) },
-      Answers.Fits-not r xs (record { completed = c; room = omega arith; is_table = refl }) f refl refl,
+      Answers.fits_not r xs (record { completed = c; room = omega arith; is_table = refl }) f refl refl,
     )
     step r xs c (no m) (inl (f, k)) =
-        let (words, u) = trimmed-exists i.rule_set i.heap i.predicate i.values part h.valid k c.after c.complete (omega arith) in (
+        let (words, u) = trimmed_exists i.rule_set i.heap i.predicate i.values part h.valid k c.after c.complete (omega arith) in (
           record {
             reply = record { refusal = 0; verdict = 1; facts = length xs; rounds = r; lines = u.taken.count };
             table = padded n xs;
@@ -55,8 +55,8 @@ answer_exists i h n l {Yes} part decided =
         )
 
 module _ (book snapshot question : List ℕ) where
-  pub decided-exists : (table space : List ℕ) → (o : Returned Reply) × Decided book snapshot question table space o.reply o.table o.space
-  decided-exists table space =
+  pub decided_exists : (table space : List ℕ) → (o : Returned Reply) × Decided book snapshot question table space o.reply o.table o.space
+  decided_exists table space =
       serves {Refuses = λ (o : Returned Reply) (n : ℕ). Refuses refusal_reply o.reply table space o.table o.space n}
       {Answered = λ (o : Returned Reply) (i : Input). AnswersBy i (length table) (FitsInput i) (whole_of i.heap) o}
       (ladder book snapshot question) refl (lent_decided (length table) (length space))
@@ -65,9 +65,9 @@ module _ (book snapshot question : List ℕ) where
       answer_exists i h (length table) l.most (whole_of i.heap) (by_cases (fits_decided i h) (λ f. inl (f, fits_whole f)) (λ f. inr f)))
 
   -- the conditions for lines are decided
-  taken-decided : (i : Input) → WellFormedInput i → (part : ℕ) (words : List ℕ) → Dec (CertificatePart i part words)
-  taken-decided i h part words =
-      let x = takes-exact i.rule_set i.heap (domain_of i) words (domain-ascending i.rule_set i.heap i.values) (omega (arith, h.valid.rules_formed.rules_few))
+  taken_decided : (i : Input) → WellFormedInput i → (part : ℕ) (words : List ℕ) → Dec (CertificatePart i part words)
+  taken_decided i h part words =
+      let x = takes_exact i.rule_set i.heap (domain_of i) words (domain-ascending i.rule_set i.heap i.values) (omega (arith, h.valid.rules_formed.rules_few))
       (omega (arith, domain-length i.rule_set i.heap i.values h.valid)) i.predicate i.values part in
       step (takes i.rule_set i.heap (domain_of i) words i.predicate i.values part) refl x
     where
@@ -76,10 +76,10 @@ module _ (book snapshot question : List ℕ) where
       step true e x = yes (x.0 e)
       step false e x = no (λ t. false≢true (sym e ∙ x.1 t))
 
-  pub checked-exists : (part : Input → ℕ) (words : List ℕ) → (r : CheckReply) × CheckedFor book snapshot question part words r
-  checked-exists part words =
+  pub checked_exists : (part : Input → ℕ) (words : List ℕ) → (r : CheckReply) × CheckedFor book snapshot question part words r
+  checked_exists part words =
       serves {Refuses = λ (r : CheckReply) (n : ℕ). r ≡ record { refusal = n; taken = 0 }} {Answered = λ (r : CheckReply) (i : Input). Checks i (part i) words r}
       (ladder book snapshot question) refl (yes tt)
       (λ n. (record { refusal = n; taken = 0 }, refl))
-      (λ i e l. by_cases (taken-decided i (ladder_read book snapshot question i e) (part i) words)
+      (λ i e l. by_cases (taken_decided i (ladder_read book snapshot question i e) (part i) words)
       (λ t. (record { refusal = 0; taken = 1 }, Checks.takes t refl)) (λ n. (record { refusal = 0; taken = 0 }, Checks.takes_not n refl)))

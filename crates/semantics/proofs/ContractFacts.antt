@@ -3,7 +3,7 @@ use mathlib.Core.{Path.◌≡◌, Path.sym, Path.ap₂, Path.◌∙◌, List.Lis
 use Prim.Native.Nat.{ℕ}
 use Rattle.semantics.specs.{Lists.zeros, Formats.Input}
 use Rattle.semantics.specs.Contract.{Checks, CheckedFor, desk_number, DeskDecided, DeskChecks, DeskChecked}
-use Rattle.semantics.proofs.{ServedFacts.served-both, EngineCall.one-ladder, EngineCall.decided-same}
+use Rattle.semantics.proofs.{ServedFacts.served_both, EngineCall.one_ladder, EngineCall.decided_same}
 use Rattle.semantics.specs.declared.CheckReply.{CheckReply}
 
 -- the check's answer is decided
@@ -21,14 +21,14 @@ desk_checks_same (DeskChecks.takes_not t a) (DeskChecks.takes_not t' a') = a ∙
 
 module _ (book snapshot question : List ℕ) where
   -- the reply of the check is decided
-  pub checked-same : (part : Input → ℕ) (words : List ℕ) {r s : CheckReply} → CheckedFor book snapshot question part words r → CheckedFor book snapshot question part words s → r ≡ s
-  checked-same part words d e = served-both (one-ladder book snapshot question) d e (λ n a b. a ∙ sym b) (λ i k l. checks_same k l)
+  pub checked_same : (part : Input → ℕ) (words : List ℕ) {r s : CheckReply} → CheckedFor book snapshot question part words r → CheckedFor book snapshot question part words s → r ≡ s
+  checked_same part words d e = served_both (one_ladder book snapshot question) d e (λ n a b. a ∙ sym b) (λ i k l. checks_same k l)
 
   -- the desk's numbers are decided
-  pub desk-decided-same : {m n : ℕ} → DeskDecided book snapshot question m → DeskDecided book snapshot question n → m ≡ n
-  desk-decided-same a b =
-      let s = decided-same book snapshot question (zeros 1024) (zeros 3072) a.decided b.decided in
+  pub desk_decided_same : {m n : ℕ} → DeskDecided book snapshot question m → DeskDecided book snapshot question n → m ≡ n
+  desk_decided_same a b =
+      let s = decided_same book snapshot question (zeros 1024) (zeros 3072) a.decided b.decided in
       a.is_number ∙ ap₂ desk_number s.alike.refusals s.verdicts ∙ sym b.is_number
 
-  pub desk-checked-same : (bytes : List ℕ) {m n : ℕ} → DeskChecked book snapshot question bytes m → DeskChecked book snapshot question bytes n → m ≡ n
-  desk-checked-same bytes d e = served-both (one-ladder book snapshot question) d e (λ n a b. a ∙ sym b) (λ i k l. desk_checks_same k l)
+  pub desk_checked_same : (bytes : List ℕ) {m n : ℕ} → DeskChecked book snapshot question bytes m → DeskChecked book snapshot question bytes n → m ≡ n
+  desk_checked_same bytes d e = served_both (one_ladder book snapshot question) d e (λ n a b. a ∙ sym b) (λ i k l. desk_checks_same k l)

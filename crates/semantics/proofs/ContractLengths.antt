@@ -7,7 +7,7 @@ use native.Mathlib.Omega.{arith}
 use lib.ListN.{length, length-append, length-replicate}
 use Rattle.semantics.specs.{Lists.◌among◌, Lists.Distinct, Lists.zeros, Formats.Input, Certificate.fact_at}
 use Rattle.semantics.specs.Contract.{domain_of, TrimmedPart, CompletedInput, padded}
-use Rattle.semantics.proofs.FixedPoint.{line-holds, holding-counted}
+use Rattle.semantics.proofs.FixedPoint.{line_holds, holding_counted}
 
 facts_to : List ℕ → ℕ → List ℕ
 facts_to words zero = []
@@ -36,8 +36,8 @@ lines_fit i words u c =
     omega (
       arith,
       to_length words u.taken.count,
-      holding-counted i.rule_set i.heap (domain_of i) c.complete (facts_to words u.taken.count) (to_distinct words u.taken.count u.once)
-          (λ f m. let (k, a, b, e) = to_member words u.taken.count f m in rw e (line-holds i.rule_set i.heap (domain_of i) u.taken k k (omega arith) a b)),
+      holding_counted i.rule_set i.heap (domain_of i) c.complete (facts_to words u.taken.count) (to_distinct words u.taken.count u.once)
+          (λ f m. let (k, a, b, e) = to_member words u.taken.count f m in rw e (line_holds i.rule_set i.heap (domain_of i) u.taken k k (omega arith) a b)),
     )
 
 pub padded-length : (n : ℕ) (xs : List ℕ) → length xs ≤ n → length (padded n xs) ≡ n

@@ -16,22 +16,22 @@ module _ (base : ℕ) where
   more : (x d p : ℕ) → x < base → d < p → x + base * d < base * p
   more x d p h l = let k : base * suc d ≤ base * p = mul-le-mul_left base l in omega arith
 
-  pub digits-below : (k : ℕ) (xs : List ℕ) → 1 ≤ base → length xs ≤ k → ((x : ℕ) → x among xs → x < base) → digits base xs < base ^ k
+  pub digits_below : (k : ℕ) (xs : List ℕ) → 1 ≤ base → length xs ≤ k → ((x : ℕ) → x among xs → x < base) → digits base xs < base ^ k
   unfolding digits
-  digits-below zero [] o l h = rw pow-zero (omega arith)
-  digits-below zero (x ∷ xs) o l h = absurd (omega arith)
-  digits-below (suc k) [] o l h = rw pow-suc (omega (arith, more 0 0 (base ^ k) o (digits-below k [] o (omega arith) h)))
-  digits-below (suc k) (x ∷ xs) o l h =
-      rw pow-suc (omega (arith, more x (digits base xs) (base ^ k) (h x (Memᴰ.head refl)) (digits-below k xs o (omega arith) (λ y m. h y (Memᴰ.tail m)))))
+  digits_below zero [] o l h = rw pow-zero (omega arith)
+  digits_below zero (x ∷ xs) o l h = absurd (omega arith)
+  digits_below (suc k) [] o l h = rw pow-suc (omega (arith, more 0 0 (base ^ k) o (digits_below k [] o (omega arith) h)))
+  digits_below (suc k) (x ∷ xs) o l h =
+      rw pow-suc (omega (arith, more x (digits base xs) (base ^ k) (h x (Memᴰ.head refl)) (digits_below k xs o (omega arith) (λ y m. h y (Memᴰ.tail m)))))
 
-  pub digits-back : (xs : List ℕ) → ((x : ℕ) → x among xs → x < base) → digits_of base (length xs) (digits base xs) ≡ xs
+  pub digits_back : (xs : List ℕ) → ((x : ℕ) → x among xs → x < base) → digits_of base (length xs) (digits base xs) ≡ xs
   unfolding digits_of digits
-  digits-back [] h = refl
-  digits-back (x ∷ xs) h =
+  digits_back [] h = refl
+  digits_back (x ∷ xs) h =
       let l : x < base = h x (Memᴰ.head refl) in
       ap₂ (λ (y : ℕ) (ys : List ℕ). y ∷ ys) (add-mul-mod_self_left x base (digits base xs) ∙ mod-eq_of_lt l)
       (ap (digits_of base (length xs)) (add-mul-div_left x (digits base xs) (omega arith) ∙ omega (arith, div-eq_of_lt l))
-      ∙ digits-back xs (λ y m. h y (Memᴰ.tail m)))
+      ∙ digits_back xs (λ y m. h y (Memᴰ.tail m)))
 
-  pub digits-equal : (xs ys : List ℕ) → length xs ≡ length ys → ((x : ℕ) → x among xs → x < base) → ((x : ℕ) → x among ys → x < base) → digits base xs ≡ digits base ys → xs ≡ ys
-  digits-equal xs ys l hx hy e = sym (digits-back xs hx) ∙ ap₂ (digits_of base) l e ∙ digits-back ys hy
+  pub digits_equal : (xs ys : List ℕ) → length xs ≡ length ys → ((x : ℕ) → x among xs → x < base) → ((x : ℕ) → x among ys → x < base) → digits base xs ≡ digits base ys → xs ≡ ys
+  digits_equal xs ys l hx hy e = sym (digits_back xs hx) ∙ ap₂ (digits_of base) l e ∙ digits_back ys hy

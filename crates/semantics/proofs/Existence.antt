@@ -13,7 +13,7 @@ use Rattle.semantics.specs.{Tree.ByHand, Domain.domain, Fact.position, Fact.fact
 use Rattle.semantics.specs.Rounds.{Ground, Complete, After, Holds, AllHold}
 use Rattle.semantics.specs.Certificate.{fact_at, LineHolds, Trimmed}
 use Rattle.semantics.proofs.{Bits.dec_in, Bits.in_rest, Coding.spot, DomainFacts.query-good}
-use Rattle.semantics.proofs.FixedPoint.{same-ground, holds-closed, table-holds, holding-counted}
+use Rattle.semantics.proofs.FixedPoint.{same-ground, holds_closed, table_holds, holding_counted}
 use Rattle.semantics.proofs.{Verdict.completeness, LineCount.leave, LineCount.leave_in, LineCount.leave_out}
 
 module _ (rule_set : RuleSet) (heap : Heap) (values : List ℕ) where
@@ -23,9 +23,9 @@ module _ (rule_set : RuleSet) (heap : Heap) (values : List ℕ) where
     more : {f : ℕ} {fs : List ℕ} (called : List ℕ) → Ground rule_set heap values called f → ((g : ℕ) → g among called → g among fs) → ¬ (f among fs)
         → Built fs → Built (f ∷ fs)
 
-  built-distinct : {fs : List ℕ} → Built fs → Distinct fs
-  built-distinct Built.none = Distinct.none
-  built-distinct (Built.more called g k n b) = Distinct.next n (built-distinct b)
+  built_distinct : {fs : List ℕ} → Built fs → Distinct fs
+  built_distinct Built.none = Distinct.none
+  built_distinct (Built.more called g k n b) = Distinct.next n (built_distinct b)
 
   -- what holds can be built, on top of what is built
   record Grown (fs gs : List ℕ) : Type 0 where
@@ -34,8 +34,8 @@ module _ (rule_set : RuleSet) (heap : Heap) (values : List ℕ) where
     pub old : (g : ℕ) → g among fs → g among facts
     pub new : (g : ℕ) → g among gs → g among facts
 
-  grown-fact : (fs called : List ℕ) (f : ℕ) → Ground rule_set heap values called f → Grown fs called → Grown fs (f ∷ [])
-  grown-fact fs called f g w = step (dec_in f w.facts)
+  grown_fact : (fs called : List ℕ) (f : ℕ) → Ground rule_set heap values called f → Grown fs called → Grown fs (f ∷ [])
+  grown_fact fs called f g w = step (dec_in f w.facts)
     where
       step : Dec (f among w.facts) → Grown fs (f ∷ [])
       step (yes m) = record {
@@ -51,8 +51,8 @@ module _ (rule_set : RuleSet) (heap : Heap) (values : List ℕ) where
         new = λ h k. ⊎_elim Memᴰ.head (λ i. absurd (Memᴰ.not-nil i)) (Memᴰ.cases_cons k);
       }
 
-  grown-all : (fs gs : List ℕ) (f : ℕ) → (w : Grown fs (f ∷ [])) → Grown w.facts gs → Grown fs (f ∷ gs)
-  grown-all fs gs f w v = record {
+  grown_all : (fs gs : List ℕ) (f : ℕ) → (w : Grown fs (f ∷ [])) → Grown w.facts gs → Grown fs (f ∷ gs)
+  grown_all fs gs f w v = record {
     facts = v.facts;
     built = v.built;
     old = λ g m. v.old g (w.old g m);
@@ -61,13 +61,13 @@ module _ (rule_set : RuleSet) (heap : Heap) (values : List ℕ) where
 
   mutual
     grow : {f : ℕ} → Holds rule_set heap values f → (fs : List ℕ) → Built fs → Grown fs (f ∷ [])
-    grow {f} (Holds.holds {called = called} g all) fs b = grown-fact fs called f g (grow-all all fs b)
+    grow {f} (Holds.holds {called = called} g all) fs b = grown_fact fs called f g (grow_all all fs b)
 
-    grow-all : {gs : List ℕ} → AllHold rule_set heap values gs → (fs : List ℕ) → Built fs → Grown fs gs
-    grow-all AllHold.none fs b = record { facts = fs; built = b; old = λ g m. m; new = λ g m. absurd (Memᴰ.not-nil m) }
-    grow-all (AllHold.next {f = f} {fs = gs} h hs) fs b =
+    grow_all : {gs : List ℕ} → AllHold rule_set heap values gs → (fs : List ℕ) → Built fs → Grown fs gs
+    grow_all AllHold.none fs b = record { facts = fs; built = b; old = λ g m. m; new = λ g m. absurd (Memᴰ.not-nil m) }
+    grow_all (AllHold.next {f = f} {fs = gs} h hs) fs b =
         let w = grow h fs b in
-        grown-all fs gs f w (grow-all hs w.facts w.built)
+        grown_all fs gs f w (grow_all hs w.facts w.built)
 
   -- some fact of the list calls g
   abbrev CalledIn : {fs : List ℕ} → Built fs → ℕ → Type 0
@@ -105,38 +105,38 @@ module _ (rule_set : RuleSet) (heap : Heap) (values : List ℕ) where
       (λ d. skip f need fs (prune b need (λ x m. in_rest (λ e. d (Memᴰ.cast (sym e) m)) (h x m))))
 
   -- what is called is older
-  called-in : {fs : List ℕ} (b : Built fs) (g : ℕ) → CalledIn b g → g among fs
-  called-in Built.none g c = absurd c
-  called-in (Built.more called gr k n b) g c = Memᴰ.tail (⊎_elim (k g) (called-in b g) c)
+  called_in_lem : {fs : List ℕ} (b : Built fs) (g : ℕ) → CalledIn b g → g among fs
+  called_in_lem Built.none g c = absurd c
+  called_in_lem (Built.more called gr k n b) g c = Memᴰ.tail (⊎_elim (k g) (called_in_lem b g) c)
 
-  called-older : {f : ℕ} {fs : List ℕ} (b : Built (f ∷ fs)) (g : ℕ) → CalledIn b g → g among fs
-  called-older (Built.more called gr k n b) g c = ⊎_elim (k g) (called-in b g) c
+  called_older : {f : ℕ} {fs : List ℕ} (b : Built (f ∷ fs)) (g : ℕ) → CalledIn b g → g among fs
+  called_older (Built.more called gr k n b) g c = ⊎_elim (k g) (called_in_lem b g) c
 
   -- the line of a fact: the oldest is line 1
   line_of : List ℕ → ℕ → ℕ
   line_of [] f = 0
   line_of (g ∷ gs) f = elim (eqb f g) [ true ↦ suc (length gs) | false ↦ line_of gs f ]
 
-  line-head : (f : ℕ) (fs : List ℕ) → line_of (f ∷ fs) f ≡ suc (length fs)
+  line_head : (f : ℕ) (fs : List ℕ) → line_of (f ∷ fs) f ≡ suc (length fs)
   unfolding line_of
-  line-head f fs = rw (eq-eqb f f refl, line_of) refl
+  line_head f fs = rw (eq-eqb f f refl, line_of) refl
 
-  line-tail : (f g : ℕ) (fs : List ℕ) → g ≢ f → line_of (f ∷ fs) g ≡ line_of fs g
+  line_tail : (f g : ℕ) (fs : List ℕ) → g ≢ f → line_of (f ∷ fs) g ≡ line_of fs g
   unfolding line_of
-  line-tail f g fs n = rw (ne_eqb g f n, line_of) refl
+  line_tail f g fs n = rw (ne_eqb g f n, line_of) refl
 
-  line-bounds : (fs : List ℕ) (g : ℕ) → g among fs → (1 ≤ line_of fs g) × (line_of fs g ≤ length fs)
-  line-bounds [] g m = absurd (Memᴰ.not-nil m)
-  line-bounds (f ∷ fs) g m =
-      by_cases (ℕ_discrete g f) (λ e. rw (e, line-head f fs) (omega arith, omega arith))
-      (λ d. let h = line-bounds fs g (in_rest d m) in rw (line-tail f g fs d) (h.0, omega arith))
+  line_bounds : (fs : List ℕ) (g : ℕ) → g among fs → (1 ≤ line_of fs g) × (line_of fs g ≤ length fs)
+  line_bounds [] g m = absurd (Memᴰ.not-nil m)
+  line_bounds (f ∷ fs) g m =
+      by_cases (ℕ_discrete g f) (λ e. rw (e, line_head f fs) (omega arith, omega arith))
+      (λ d. let h = line_bounds fs g (in_rest d m) in rw (line_tail f g fs d) (h.0, omega arith))
 
   -- the fact of a line
-  line-fact : (fs : List ℕ) → Distinct fs → (k : ℕ) → 1 ≤ k → k ≤ length fs → (g : ℕ) × (g among fs) × (line_of fs g ≡ k)
-  line-fact [] d k low high = absurd (omega arith)
-  line-fact (f ∷ fs) (Distinct.next n d) k low high =
-      by_cases (ℕ_discrete k (suc (length fs))) (λ e. (f, Memᴰ.head refl, line-head f fs ∙ sym e))
-      (λ q. let (g, m, e) = line-fact fs d k low (omega arith) in (g, Memᴰ.tail m, line-tail f g fs (λ p. n (Memᴰ.cast (sym p) m)) ∙ e))
+  line_fact : (fs : List ℕ) → Distinct fs → (k : ℕ) → 1 ≤ k → k ≤ length fs → (g : ℕ) × (g among fs) × (line_of fs g ≡ k)
+  line_fact [] d k low high = absurd (omega arith)
+  line_fact (f ∷ fs) (Distinct.next n d) k low high =
+      by_cases (ℕ_discrete k (suc (length fs))) (λ e. (f, Memᴰ.head refl, line_head f fs ∙ sym e))
+      (λ q. let (g, m, e) = line_fact fs d k low (omega arith) in (g, Memᴰ.tail m, line_tail f g fs (λ p. n (Memᴰ.cast (sym p) m)) ∙ e))
 
   -- the three words of a fact
   wordsFor : (f : ℕ) (fs called : List ℕ) → Ground rule_set heap values called f → List ℕ
@@ -151,60 +151,60 @@ module _ (rule_set : RuleSet) (heap : Heap) (values : List ℕ) where
   calls_of Built.none l = []
   calls_of (Built.more {fs = fs} called g k n b) l = elim (eqb l (suc (length fs))) [ true ↦ map (line_of fs) called | false ↦ calls_of b l ]
 
-  words-length : {fs : List ℕ} (b : Built fs) → length (words_of b) ≡ 3 * length fs
+  words_length : {fs : List ℕ} (b : Built fs) → length (words_of b) ≡ 3 * length fs
   unfolding words_of wordsFor
-  words-length Built.none = refl
-  words-length (Built.more {f = f} {fs = fs} called g k n b) = omega (arith, length-append (words_of b) (wordsFor f fs called g), words-length b)
+  words_length Built.none = refl
+  words_length (Built.more {f = f} {fs = fs} called g k n b) = omega (arith, length-append (words_of b) (wordsFor f fs called g), words_length b)
 
   -- a longer list with the same words so far
   abbrev Agrees : List ℕ → List ℕ → Type 0
   Agrees long short = (i : ℕ) → i < length short → get_or long i 0 ≡ get_or short i 0
 
-  agrees-older : (long short three : List ℕ) → Agrees long (short ++ three) → Agrees long short
-  agrees-older long short three a i h = a i (omega (arith, length-append short three)) ∙ get_or-append short three 0 i h
+  agrees_older : (long short three : List ℕ) → Agrees long (short ++ three) → Agrees long short
+  agrees_older long short three a i h = a i (omega (arith, length-append short three)) ∙ get_or-append short three 0 i h
 
-  agrees-newest : (long short three : List ℕ) → Agrees long (short ++ three) → (i : ℕ) → i < length three → get_or long (length short + i) 0 ≡ get_or three i 0
-  agrees-newest long short three a i h = a (length short + i) (omega (arith, length-append short three)) ∙ get_or-append-add short three i 0
+  agrees_newest : (long short three : List ℕ) → Agrees long (short ++ three) → (i : ℕ) → i < length three → get_or long (length short + i) 0 ≡ get_or three i 0
+  agrees_newest long short three a i h = a (length short + i) (omega (arith, length-append short three)) ∙ get_or-append-add short three i 0
 
   module _ (words : List ℕ) where
     -- the fact of a line is where it should be
-    fact-there : {fs : List ℕ} (b : Built fs) → Agrees words (words_of b) → (g : ℕ) → g among fs → fact_at words (line_of fs g) ≡ g
+    fact_there : {fs : List ℕ} (b : Built fs) → Agrees words (words_of b) → (g : ℕ) → g among fs → fact_at words (line_of fs g) ≡ g
     unfolding words_of wordsFor
-    fact-there Built.none a g m = absurd (Memᴰ.not-nil m)
-    fact-there (Built.more {f = f} {fs = fs} called gr k n b) a g m =
+    fact_there Built.none a g m = absurd (Memᴰ.not-nil m)
+    fact_there (Built.more {f = f} {fs = fs} called gr k n b) a g m =
         by_cases (ℕ_discrete g f)
-        (λ e. rw (e, line-head f fs)
-        (ap (λ (i : ℕ). get_or words i 0) (omega (arith, words-length b)) ∙ agrees-newest words (words_of b) (wordsFor f fs called gr) a 0 (omega arith)))
-        (λ d. ap (fact_at words) (line-tail f g fs d) ∙ fact-there b (agrees-older words (words_of b) (wordsFor f fs called gr) a) g (in_rest d m))
+        (λ e. rw (e, line_head f fs)
+        (ap (λ (i : ℕ). get_or words i 0) (omega (arith, words_length b)) ∙ agrees_newest words (words_of b) (wordsFor f fs called gr) a 0 (omega arith)))
+        (λ d. ap (fact_at words) (line_tail f g fs d) ∙ fact_there b (agrees_older words (words_of b) (wordsFor f fs called gr) a) g (in_rest d m))
 
     -- the facts of the lines called are the facts called
-    facts-back : {fs : List ℕ} (b : Built fs) → Agrees words (words_of b) → (called : List ℕ) → ((g : ℕ) → g among called → g among fs)
+    facts_back : {fs : List ℕ} (b : Built fs) → Agrees words (words_of b) → (called : List ℕ) → ((g : ℕ) → g among called → g among fs)
         → map (fact_at words) (map (line_of fs) called) ≡ called
-    facts-back b a [] h = refl
-    facts-back b a (g ∷ gs) h =
-        ap₂ (λ (x : ℕ) (xs : List ℕ). x ∷ xs) (fact-there b a g (h g (Memᴰ.head refl))) (facts-back b a gs (λ x m. h x (Memᴰ.tail m)))
+    facts_back b a [] h = refl
+    facts_back b a (g ∷ gs) h =
+        ap₂ (λ (x : ℕ) (xs : List ℕ). x ∷ xs) (fact_there b a g (h g (Memᴰ.head refl))) (facts_back b a gs (λ x m. h x (Memᴰ.tail m)))
 
     -- the newest line
-    newest-taken : (f : ℕ) (fs called : List ℕ) (g : Ground rule_set heap values called f) (b : Built fs) → ((h : ℕ) → h among called → h among fs)
+    newest_taken : (f : ℕ) (fs called : List ℕ) (g : Ground rule_set heap values called f) (b : Built fs) → ((h : ℕ) → h among called → h among fs)
         → Agrees words (words_of b ++ wordsFor f fs called g) → LineHolds rule_set heap values words (suc (length fs)) (map (line_of fs) called)
     unfolding wordsFor
-    newest-taken f fs called g b k a =
-        let older = agrees-older words (words_of b) (wordsFor f fs called g) a in
-        let at = agrees-newest words (words_of b) (wordsFor f fs called g) a in
-        let back = facts-back b older called k in
+    newest_taken f fs called g b k a =
+        let older = agrees_older words (words_of b) (wordsFor f fs called g) a in
+        let at = agrees_newest words (words_of b) (wordsFor f fs called g) a in
+        let back = facts_back b older called k in
         let s = spot blank_rule g.applies.listed in
         record {
           earlier = λ l m.
               let (h, i, e) = Memᴰ.of_map (line_of fs) called m in
-              let (low, high) = line-bounds fs h (k h i) in
+              let (low, high) = line_bounds fs h (k h i) in
               (omega arith, omega arith);
-          ground = same-ground rule_set heap values (sym back) (ap (λ (i : ℕ). get_or words i 0) (omega (arith, words-length b)) ∙ at 0 (omega arith)) g;
+          ground = same-ground rule_set heap values (sym back) (ap (λ (i : ℕ). get_or words i 0) (omega (arith, words_length b)) ∙ at 0 (omega arith)) g;
           written = record {
             number = s.0;
             in_rule_set = s.1;
             is_rule = s.2;
-            positions = ap (λ (i : ℕ). get_or words i 0) (omega (arith, words-length b)) ∙ at 1 (omega arith);
-            names = ap (λ (i : ℕ). get_or words i 0) (omega (arith, words-length b)) ∙ at 2 (omega arith);
+            positions = ap (λ (i : ℕ). get_or words i 0) (omega (arith, words_length b)) ∙ at 1 (omega arith);
+            names = ap (λ (i : ℕ). get_or words i 0) (omega (arith, words_length b)) ∙ at 2 (omega arith);
           };
         }
 
@@ -212,8 +212,8 @@ module _ (rule_set : RuleSet) (heap : Heap) (values : List ℕ) where
     unfolding words_of calls_of
     line_taken Built.none a k low high = absurd (omega arith)
     line_taken (Built.more {f = f} {fs = fs} called g kk n b) a k low high =
-        by_cases (ℕ_discrete k (suc (length fs))) (λ e. rw (eq-eqb k (suc (length fs)) e, calls_of, e) (newest-taken f fs called g b kk a))
-        (λ d. rw (ne_eqb k (suc (length fs)) d, calls_of) (line_taken b (agrees-older words (words_of b) (wordsFor f fs called g) a) k low (omega arith)))
+        by_cases (ℕ_discrete k (suc (length fs))) (λ e. rw (eq-eqb k (suc (length fs)) e, calls_of, e) (newest_taken f fs called g b kk a))
+        (λ d. rw (ne_eqb k (suc (length fs)) d, calls_of) (line_taken b (agrees_older words (words_of b) (wordsFor f fs called g) a) k low (omega arith)))
 
   -- a fact that is called is called by a later line
   record CalledLine (fs : List ℕ) (b : Built fs) (g : ℕ) : Type 0 where
@@ -222,10 +222,10 @@ module _ (rule_set : RuleSet) (heap : Heap) (values : List ℕ) where
     pub within : line ≤ length fs
     pub calls : line_of fs g among calls_of b line
 
-  called-line : {fs : List ℕ} (b : Built fs) (g : ℕ) → CalledIn b g → CalledLine fs b g
+  called_line : {fs : List ℕ} (b : Built fs) (g : ℕ) → CalledIn b g → CalledLine fs b g
   unfolding calls_of
-  called-line Built.none g c = absurd c
-  called-line (Built.more {f = f} {fs = fs} called gr k n b) g c = step c (called-line b g)
+  called_line Built.none g c = absurd c
+  called_line (Built.more {f = f} {fs = fs} called gr k n b) g c = step c (called_line b g)
     where
       other : g among fs → g ≢ f
       other m e = n (Memᴰ.cast (sym e) m)
@@ -233,13 +233,13 @@ module _ (rule_set : RuleSet) (heap : Heap) (values : List ℕ) where
       step : (g among called) ⊎ CalledIn b g → (CalledIn b g → CalledLine fs b g) → CalledLine (f ∷ fs) (Built.more {f = f} {fs = fs} called gr k n b) g
       step (inl m) rec = record {
         line = suc (length fs);
-        later = rw (line-tail f g fs (other (k g m))) (omega (arith, (line-bounds fs g (k g m)).1));
+        later = rw (line_tail f g fs (other (k g m))) (omega (arith, (line_bounds fs g (k g m)).1));
         within = omega arith;
-        calls = rw (line-tail f g fs (other (k g m)), eq-eqb (suc (length fs)) (suc (length fs)) refl, calls_of) (Memᴰ.map (line_of fs) m);
+        calls = rw (line_tail f g fs (other (k g m)), eq-eqb (suc (length fs)) (suc (length fs)) refl, calls_of) (Memᴰ.map (line_of fs) m);
       }
       step (inr d) rec =
           let r = rec d in
-          let e = line-tail f g fs (other (called-in b g d)) in
+          let e = line_tail f g fs (other (called_in_lem b g d)) in
           record {
             line = r.line;
             later = rw e r.later;
@@ -248,28 +248,28 @@ module _ (rule_set : RuleSet) (heap : Heap) (values : List ℕ) where
           }
 
   -- what is built holds
-  built-holds : {fs : List ℕ} → Built fs → (g : ℕ) → g among fs → Holds rule_set heap values g
-  built-holds Built.none g m = absurd (Memᴰ.not-nil m)
-  built-holds (Built.more {f = f} called gr k n b) g m =
+  built_holds : {fs : List ℕ} → Built fs → (g : ℕ) → g among fs → Holds rule_set heap values g
+  built_holds Built.none g m = absurd (Memᴰ.not-nil m)
+  built_holds (Built.more {f = f} called gr k n b) g m =
       ⊎_elim
-      (λ e. rw e (holds-closed rule_set heap values f (record { called = called; ground = gr; from-known = λ h i. built-holds b h (k h i) })))
-      (built-holds b g) (Memᴰ.cases_cons m)
+      (λ e. rw e (holds_closed rule_set heap values f (record { called = called; ground = gr; from_known = λ h i. built_holds b h (k h i) })))
+      (built_holds b g) (Memᴰ.cases_cons m)
 
   -- where one fact is needed, it is the newest
-  needed-first : (root : ℕ) (fs : List ℕ) (b : Built fs) → root among fs → ((g : ℕ) → g among fs → (g among root ∷ []) ⊎ CalledIn b g) → line_of fs root ≡ length fs
-  needed-first root [] b m used = absurd (Memᴰ.not-nil m)
-  needed-first root (f ∷ fs) b m used = ⊎_elim same older (used f (Memᴰ.head refl))
+  needed_first : (root : ℕ) (fs : List ℕ) (b : Built fs) → root among fs → ((g : ℕ) → g among fs → (g among root ∷ []) ⊎ CalledIn b g) → line_of fs root ≡ length fs
+  needed_first root [] b m used = absurd (Memᴰ.not-nil m)
+  needed_first root (f ∷ fs) b m used = ⊎_elim same older (used f (Memᴰ.head refl))
     where
       same : f among root ∷ [] → line_of (f ∷ fs) root ≡ length (f ∷ fs)
       same i =
           let e : root ≡ f = ⊎_elim sym (λ j. absurd (Memᴰ.not-nil j)) (Memᴰ.cases_cons i) in
-          ap (line_of (f ∷ fs)) e ∙ line-head f fs
+          ap (line_of (f ∷ fs)) e ∙ line_head f fs
 
       apart : Distinct (f ∷ fs) → f among fs → ⊥
       apart (Distinct.next n d) i = n i
 
       older : CalledIn b f → line_of (f ∷ fs) root ≡ length (f ∷ fs)
-      older c = absurd (apart (built-distinct b) (called-older b f c))
+      older c = absurd (apart (built_distinct b) (called_older b f c))
 
 module _ (rule_set : RuleSet) (heap : Heap) (p : ℕ) (query : List ℕ) (part : ℕ) where
   abbrev root : ℕ
@@ -278,25 +278,25 @@ module _ (rule_set : RuleSet) (heap : Heap) (p : ℕ) (query : List ℕ) (part :
   abbrev BuiltHere : List ℕ → Type 0
   BuiltHere = Built rule_set heap (domain rule_set heap query)
 
-  trimmed-of : (table : List ℕ) → Complete rule_set heap (domain rule_set heap query) table → length table ≤ 65535
+  trimmed_of : (table : List ℕ) → Complete rule_set heap (domain rule_set heap query) table → length table ≤ 65535
       → (fs : List ℕ) (b : BuiltHere fs) → root among fs
       → ((g : ℕ) → g among fs → (g among root ∷ []) ⊎ CalledIn rule_set heap (domain rule_set heap query) b g)
       → Trimmed rule_set heap (domain rule_set heap query) p query part (words_of rule_set heap (domain rule_set heap query) b)
-  trimmed-of table complete small fs b m used =
+  trimmed_of table complete small fs b m used =
       let values : List ℕ = domain rule_set heap query in
       let words : List ℕ = words_of rule_set heap values b in
-      let first : line_of rule_set heap values fs root ≡ length fs = needed-first rule_set heap values root fs b m used in
-      let there : (g : ℕ) → g among fs → fact_at words (line_of rule_set heap values fs g) ≡ g = fact-there rule_set heap values words b (λ i h. refl) in
+      let first : line_of rule_set heap values fs root ≡ length fs = needed_first rule_set heap values root fs b m used in
+      let there : (g : ℕ) → g among fs → fact_at words (line_of rule_set heap values fs g) ≡ g = fact_there rule_set heap values words b (λ i h. refl) in
       let facts : (k : ℕ) → 1 ≤ k → k ≤ length fs → (g : ℕ) × (g among fs) × (line_of rule_set heap values fs g ≡ k) =
-      line-fact rule_set heap values fs (built-distinct rule_set heap values b) in
+      line_fact rule_set heap values fs (built_distinct rule_set heap values b) in
       let short : length fs ≤ length table =
-      holding-counted rule_set heap values complete fs (built-distinct rule_set heap values b) (built-holds rule_set heap values b) in
+      holding_counted rule_set heap values complete fs (built_distinct rule_set heap values b) (built_holds rule_set heap values b) in
       record {
         taken = record {
           count = length fs;
-          some = omega (arith, (line-bounds rule_set heap values fs root m).0, first);
+          some = omega (arith, (line_bounds rule_set heap values fs root m).0, first);
           most = omega arith;
-          whole = words-length rule_set heap values b;
+          whole = words_length rule_set heap values b;
           calls = calls_of rule_set heap values b;
           each = line_taken rule_set heap values words b (λ i h. refl);
           last = ap (fact_at words) (sym first) ∙ there root m;
@@ -312,21 +312,21 @@ module _ (rule_set : RuleSet) (heap : Heap) (p : ℕ) (query : List ℕ) (part :
             ⊎_elim
             (λ c. let e : g ≡ root = ⊎_elim (λ z. z) (λ z. absurd (Memᴰ.not-nil z)) (Memᴰ.cases_cons c) in
             absurd (omega (arith, sym q ∙ ap (line_of rule_set heap values fs) e ∙ first)))
-            (λ c. let r = called-line rule_set heap values b g c in (r.line, omega (arith, r.later), r.within, Memᴰ.cast (sym q) r.calls))
+            (λ c. let r = called_line rule_set heap values b g c in (r.line, omega (arith, r.later), r.within, Memᴰ.cast (sym q) r.calls))
             (used g i);
       }
 
   -- Where the query fits the part and the table has at most 65,535 facts, there is a certificate of the engine's kind.
-  pub trimmed-exists : Valid rule_set heap query → ByHand rule_set heap p query part
+  pub trimmed_exists : Valid rule_set heap query → ByHand rule_set heap p query part
       → {r : ℕ} {table : List ℕ} → After rule_set heap (domain rule_set heap query) r table → Complete rule_set heap (domain rule_set heap query) table → length table ≤ 65535
       → (words : List ℕ) × Trimmed rule_set heap (domain rule_set heap query) p query part words
-  trimmed-exists valid fits {r} {table} after complete small =
+  trimmed_exists valid fits {r} {table} after complete small =
       let values : List ℕ = domain rule_set heap query in
       let h : Holds rule_set heap values root =
-      table-holds rule_set heap values after root
+      table_holds rule_set heap values after root
       (completeness rule_set heap query valid p query part (query-good rule_set heap query) fits after complete) in
       let w = grow rule_set heap values h [] Built.none in
       let r = prune rule_set heap values w.built (root ∷ []) w.new in (
         words_of rule_set heap values r.built,
-        trimmed-of table complete small r.facts r.built (r.has root (Memᴰ.head refl)) r.used,
+        trimmed_of table complete small r.facts r.built (r.has root (Memᴰ.head refl)) r.used,
       )

@@ -68,8 +68,8 @@ module _ (rule_set : RuleSet) (rule : Rule) (formed : WellFormedRule rule_set ru
   abbrev Leads : List ℕ → Type 0
   Leads known = ((p : Pure) × (p among rule.pures) × ByPure known p) ⊎ ((a : PointsTo) × (a among rule.points_to) × ByAtom known a)
 
-  leads-decided : (known : List ℕ) → Dec (Leads known)
-  leads-decided known =
+  leads_decided : (known : List ℕ) → Dec (Leads known)
+  leads_decided known =
       either_decided
       (some_decided (ByPure known) rule.pures (λ p m.
       both_decided (equal_decided p.kind)
@@ -79,40 +79,40 @@ module _ (rule_set : RuleSet) (rule : Rule) (formed : WellFormedRule rule_set ru
 
   -- Listed are fixed variables of the rule, each once.
   record Found (known : List ℕ) : Type 0 where
-    pub are-fixed : (v : ℕ) → v among known → FixedHere (var v)
+    pub are_fixed : (v : ℕ) → v among known → FixedHere (var v)
     pub once : Distinct known
     pub low : (v : ℕ) → v among known → v < variables rule_set rule
 
-  listed-fixed : {known : List ℕ} → Found known → (t : Term) → Listed known t → FixedHere t
-  listed-fixed f (var v) m = f.are-fixed v m
-  listed-fixed f (fixed x) m = Fixed.fixed_value
+  listed_fixed : {known : List ℕ} → Found known → (t : Term) → Listed known t → FixedHere t
+  listed_fixed f (var v) m = f.are_fixed v m
+  listed_fixed f (fixed x) m = Fixed.fixed_value
 
   -- what a link leads to
   record Next (known : List ℕ) : Type 0 where
     pub variable : ℕ
-    pub is-fixed : FixedHere (var variable)
-    pub is-missing : ¬ (variable among known)
-    pub is-low : variable < variables rule_set rule
+    pub is_fixed : FixedHere (var variable)
+    pub is_missing : ¬ (variable among known)
+    pub is_low : variable < variables rule_set rule
 
-  next-term : (known : List ℕ) (t : Term) → FixedHere t → Missing known t → Scoped t → Next known
-  next-term known (var v) f n s = record { variable = v; is-fixed = f; is-missing = n; is-low = s }
-  next-term known (fixed x) f n s = absurd n
+  next_term : (known : List ℕ) (t : Term) → FixedHere t → Missing known t → Scoped t → Next known
+  next_term known (var v) f n s = record { variable = v; is_fixed = f; is_missing = n; is_low = s }
+  next_term known (fixed x) f n s = absurd n
 
-  as-equality : (p : Pure) → p among rule.pures → p.kind ≡ equal → equals p.left p.right among rule.pures
-  as-equality p m e = Memᴰ.cast (ap (λ (k : Kind). record { kind = k; left = p.left; right = p.right }) (sym e)) m
+  as_equality : (p : Pure) → p among rule.pures → p.kind ≡ equal → equals p.left p.right among rule.pures
+  as_equality p m e = Memᴰ.cast (ap (λ (k : Kind). record { kind = k; left = p.left; right = p.right }) (sym e)) m
 
   next : {known : List ℕ} → Found known → Leads known → Next known
   next {known} f (inl (p, m, (e, inl (l, n)))) =
-      next-term known p.right (Fixed.to_right (as-equality p m e) (listed-fixed f p.left l)) n (formed.pures_right p m)
+      next_term known p.right (Fixed.to_right (as_equality p m e) (listed_fixed f p.left l)) n (formed.pures_right p m)
   next {known} f (inl (p, m, (e, inr (r, n)))) =
-      next-term known p.left (Fixed.to_left (as-equality p m e) (listed-fixed f p.right r)) n (formed.pures_left p m)
-  next {known} f (inr (a, m, (l, (t, k, n)))) = next-term known t (Fixed.of_field m k (f.are-fixed a.address l)) n (formed.atoms_fields a m t k)
+      next_term known p.left (Fixed.to_left (as_equality p m e) (listed_fixed f p.right r)) n (formed.pures_left p m)
+  next {known} f (inr (a, m, (l, (t, k, n)))) = next_term known t (Fixed.of_field m k (f.are_fixed a.address l)) n (formed.atoms_fields a m t k)
 
   add : {known : List ℕ} → Found known → (w : Next known) → Found (w.variable ∷ known)
   add {known} f w = record {
-    are-fixed = λ v m. ⊎_elim (λ e. rw e w.is-fixed) (f.are-fixed v) (Memᴰ.cases_cons m);
-    once = Distinct.next w.is-missing f.once;
-    low = λ v m. ⊎_elim (λ e. omega (arith, e, w.is-low)) (f.low v) (Memᴰ.cases_cons m);
+    are_fixed = λ v m. ⊎_elim (λ e. rw e w.is_fixed) (f.are_fixed v) (Memᴰ.cases_cons m);
+    once = Distinct.next w.is_missing f.once;
+    low = λ v m. ⊎_elim (λ e. omega (arith, e, w.is_low)) (f.low v) (Memᴰ.cases_cons m);
   }
 
   -- ---- until no link leads further
@@ -125,7 +125,7 @@ module _ (rule_set : RuleSet) (rule : Rule) (formed : WellFormedRule rule_set ru
 
   saturate : (fuel : ℕ) (known : List ℕ) → Found known → variables rule_set rule < fuel + length known → Saturated known
   saturate zero known f enough = absurd (omega (arith, few_below (variables rule_set rule) known f.once f.low))
-  saturate (suc fuel) known f enough = step (leads-decided known) (λ w. saturate fuel (w.variable ∷ known) (add f w) (omega arith))
+  saturate (suc fuel) known f enough = step (leads_decided known) (λ w. saturate fuel (w.variable ∷ known) (add f w) (omega arith))
     where
       step : Dec (Leads known) → ((w : Next known) → Saturated (w.variable ∷ known)) → Saturated known
       step (no n) rec = record { known = known; found = f; still = n; more = λ v m. m }
@@ -137,7 +137,7 @@ module _ (rule_set : RuleSet) (rule : Rule) (formed : WellFormedRule rule_set ru
 
   heads : Found (upward (arity rule_set rule.head) 0)
   heads = record {
-    are-fixed = λ v m. Fixed.of_head {v = v} (omega (arith, upward_in (arity rule_set rule.head) 0 v m));
+    are_fixed = λ v m. Fixed.of_head {v = v} (omega (arith, upward_in (arity rule_set rule.head) 0 v m));
     once = upward_distinct (arity rule_set rule.head) 0;
     low = λ v m. omega (arith, upward_in (arity rule_set rule.head) 0 v m);
   }
@@ -152,15 +152,15 @@ module _ (rule_set : RuleSet) (rule : Rule) (formed : WellFormedRule rule_set ru
     into : (a : PointsTo) (t : Term) → a among rule.points_to → t among a.fields → a.address among s.known → Listed s.known t
     into a t m k l = elim (listed_decided s.known t) [ yes h ↦ h | no n ↦ absurd (s.still (inr (a, m, (l, (t, k, missing s.known t n))))) ]
 
-    fixed-listed : (t : Term) → FixedHere t → Listed s.known t
-    fixed-listed t Fixed.fixed_value = tt
-    fixed-listed t (Fixed.of_head {v = v} h) = s.more v (upward-all (arity rule_set rule.head) 0 v (omega arith) (omega (arith, h)))
-    fixed-listed t (Fixed.to_right {left = l} {right = r} m f) = on l r m (fixed-listed l f)
-    fixed-listed t (Fixed.to_left {left = l} {right = r} m f) = back l r m (fixed-listed r f)
-    fixed-listed t (Fixed.of_field {atom = a} m k f) = into a t m k (fixed-listed (var a.address) f)
+    fixed_listed : (t : Term) → FixedHere t → Listed s.known t
+    fixed_listed t Fixed.fixed_value = tt
+    fixed_listed t (Fixed.of_head {v = v} h) = s.more v (upward-all (arity rule_set rule.head) 0 v (omega arith) (omega (arith, h)))
+    fixed_listed t (Fixed.to_right {left = l} {right = r} m f) = on l r m (fixed_listed l f)
+    fixed_listed t (Fixed.to_left {left = l} {right = r} m f) = back l r m (fixed_listed r f)
+    fixed_listed t (Fixed.of_field {atom = a} m k f) = into a t m k (fixed_listed (var a.address) f)
 
-  pub all-fixed-decided : Dec (AllFixed rule_set rule)
-  all-fixed-decided =
+  pub all_fixed_decided : Dec (AllFixed rule_set rule)
+  all_fixed_decided =
       let s = saturate (suc (variables rule_set rule)) (upward (arity rule_set rule.head) 0) heads (omega arith) in
       below_decided (λ v. FixedHere (var v)) (variables rule_set rule)
-      (λ v h. elim (dec_in v s.known) [ yes m ↦ yes (s.found.are-fixed v m) | no n ↦ no (λ f. n (fixed-listed s (var v) f)) ])
+      (λ v h. elim (dec_in v s.known) [ yes m ↦ yes (s.found.are_fixed v m) | no n ↦ no (λ f. n (fixed_listed s (var v) f)) ])

@@ -17,23 +17,23 @@ module _ {rule_set : RuleSet} {heap : Heap} {rule : Rule} {arguments : List ℕ}
       found.of_field m k r.index r.below (ap (λ (z : Record). length z.fields) r.is ∙ length-map atom.fields (value_of (arguments ++ bound)))
       (e ∙ ap {B = Option ℕ} some (sym (found.agrees a atom.address x e) ∙ sym (ap (λ (z : Record). z.address) r.is)))
 
-  fixed-found : {term : Term} → Fixed rule_set rule term → Has env term
-  fixed-found Fixed.fixed_value = (_, refl)
-  fixed-found (Fixed.of_head {v = v} h) = (get_or arguments v 0, found.heads v (omega (arith, a.arguments_counted)))
-  fixed-found (Fixed.to_right m f) = found.to_right m (fixed-found f)
-  fixed-found (Fixed.to_left m f) = found.to_left m (fixed-found f)
-  fixed-found (Fixed.of_field m k f) = field_found m k (fixed-found f)
+  fixed_found : {term : Term} → Fixed rule_set rule term → Has env term
+  fixed_found Fixed.fixed_value = (_, refl)
+  fixed_found (Fixed.of_head {v = v} h) = (get_or arguments v 0, found.heads v (omega (arith, a.arguments_counted)))
+  fixed_found (Fixed.to_right m f) = found.to_right m (fixed_found f)
+  fixed_found (Fixed.to_left m f) = found.to_left m (fixed_found f)
+  fixed_found (Fixed.of_field m k f) = field_found m k (fixed_found f)
 
   module _ (fixes : AllFixed rule_set rule) where
     pub all_found : (v : ℕ) → v < length env → Has env (var v)
-    all_found v h = fixed-found (fixes v (omega (arith, found.long, a.arguments_counted)))
+    all_found v h = fixed_found (fixes v (omega (arith, found.long, a.arguments_counted)))
 
     -- no variable is open
     pub none_open : (v : ℕ) → v < length env → ¬ (get_or env v (some 0) ≡ none)
     none_open v h e = let (x, q) = all_found v h in none-ne-some x (sym e ∙ q)
 
     -- The values found are those that the rule applies with.
-    pub found-values : (σ : List ℕ) → length σ ≡ length env → Agrees env σ → σ ≡ arguments ++ bound
-    found-values σ long agrees =
+    pub found_values : (σ : List ℕ) → length σ ≡ length env → Agrees env σ → σ ≡ arguments ++ bound
+    found_values σ long agrees =
         ext_get_or 0 σ (arguments ++ bound) (omega (arith, found.long, length-append arguments bound, a.bound_counted))
         (λ v h. let (x, e) = all_found v (omega arith) in agrees v x e ∙ sym (found.agrees a v x e))

@@ -22,5 +22,5 @@ module _ {rule_set : RuleSet} {heap : Heap} {domain : List ℕ} (limits : Limits
   value-domain (var i) h = keeps (get_or τ i 0) (get_d_in τ i (omega arith))
   value-domain (fixed v) m = limits.fixed_domain v m
 
-  pub values-domain : (ts : List Term) → ((t : Term) → t among ts → InScope (fixed_values rule_set) n t) → (v : ℕ) → v among values_of τ ts → v among domain
-  values-domain ts scope v m = let (t, k, e) = Memᴰ.of_map (value_of τ) ts m in Memᴰ.cast (sym e) (value-domain t (scope t k))
+  pub values_domain : (ts : List Term) → ((t : Term) → t among ts → InScope (fixed_values rule_set) n t) → (v : ℕ) → v among values_of τ ts → v among domain
+  values_domain ts scope v m = let (t, k, e) = Memᴰ.of_map (value_of τ) ts m in Memᴰ.cast (sym e) (value-domain t (scope t k))

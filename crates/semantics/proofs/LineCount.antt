@@ -1,6 +1,6 @@
 -- How many lines a certificate of the engine's kind has: a test that computes. It goes from the last line to the first, with the facts
 -- passed, and those that a line passed calls and that are yet to come.
-use Rattle.semantics.proofs.{Bits.in_rest, DomainFacts.member_false, FixedPoint.line-holds, FixedPoint.complete-has}
+use Rattle.semantics.proofs.{Bits.in_rest, DomainFacts.member_false, FixedPoint.line_holds, FixedPoint.complete_has}
 use mathlib.Core.{Bool.Bool, Bool.true, Bool.false, Bool.false≢true, Path.◌≡◌, Path.refl, Path.sym, Path.ap, Path.◌∙◌}
 use mathlib.Core.Logic.{◌≢◌, ◌⊎◌, ⊎_elim, by_cases}
 use mathlib.Core.List.Memᴰ
@@ -12,7 +12,7 @@ use borrow.Author.Tests.{eq-eqb, ne_eqb}
 use Rattle.semantics.specs.{Lists.◌among◌, Lists.member, RuleSet.RuleSet, Heap.Heap, Heap.whole_of, Domain.domain, Fact.fact, Rounds.Complete}
 use Rattle.semantics.specs.Certificate.{fact_at, Trimmed}
 use Rattle.semantics.proofs.Evaluator.{when, both, Step, steps, every}
-use Rattle.semantics.proofs.Evaluation.{flat_in, when_in, both_out, steps-in, every_out}
+use Rattle.semantics.proofs.Evaluation.{flat_in, when_in, both_out, steps_in, every_out}
 
 -- the ways in which a fact follows
 unfoldable pub ways : List Step → ℕ → List (List ℕ)
@@ -82,16 +82,16 @@ some_out (h ∷ gs) e = (h, Memᴰ.head refl)
 module _ (rule_set : RuleSet) (heap : Heap) (p : ℕ) (query words : List ℕ) (u : Trimmed rule_set heap (domain rule_set heap query) p query (whole_of heap) words)
     (table : List ℕ) (complete : Complete rule_set heap (domain rule_set heap query) table) where
   -- every line's fact follows, from facts of the table, in one of the ways that were worked out
-  line-way : (k : ℕ) → 1 ≤ k → k ≤ u.taken.count
+  line_way : (k : ℕ) → 1 ≤ k → k ≤ u.taken.count
       → map (fact_at words) (u.taken.calls k) among ways (steps rule_set heap (domain rule_set heap query) table) (fact_at words k)
-  line-way k low high =
+  line_way k low high =
       let t = u.taken.each k low high in
       ways_in (steps rule_set heap (domain rule_set heap query) table) (fact_at words k) (map (fact_at words) (u.taken.calls k))
-      (steps-in rule_set heap (domain rule_set heap query) table (map (fact_at words) (u.taken.calls k)) (fact_at words k) t.ground
+      (steps_in rule_set heap (domain rule_set heap query) table (map (fact_at words) (u.taken.calls k)) (fact_at words k) t.ground
       (λ g m.
       let (l, i, e) = Memᴰ.of_map (fact_at words) (u.taken.calls k) m in
       let (a, b) = t.earlier l i in
-      Memᴰ.cast (sym e) (complete-has rule_set heap (domain rule_set heap query) complete (fact_at words l) (line-holds rule_set heap (domain rule_set heap query) u.taken l l (omega arith) a (omega arith)))))
+      Memᴰ.cast (sym e) (complete_has rule_set heap (domain rule_set heap query) complete (fact_at words l) (line_holds rule_set heap (domain rule_set heap query) u.taken l l (omega arith) a (omega arith)))))
 
   -- the lines above k are passed
   record Passed (k : ℕ) (need passed : List ℕ) : Type 0 where
@@ -135,29 +135,29 @@ module _ (rule_set : RuleSet) (heap : Heap) (p : ℕ) (query words : List ℕ) (
           (l, a, omega arith, e)
 
   -- the calls of a line avoid the lines passed
-  calls-avoid : (k : ℕ) (passed : List ℕ) → k ≤ u.taken.count → 1 ≤ k
+  calls_avoid : (k : ℕ) (passed : List ℕ) → k ≤ u.taken.count → 1 ≤ k
       → ((g : ℕ) → g among passed → (l : ℕ) × (k ≤ l) × (l ≤ u.taken.count) × (fact_at words l ≡ g))
       → avoids (map (fact_at words) (u.taken.calls k)) passed ≡ true
-  calls-avoid k passed high low upper =
+  calls_avoid k passed high low upper =
       avoids_in (map (fact_at words) (u.taken.calls k)) passed (λ g m i.
       let (l, c, e) = Memᴰ.of_map (fact_at words) (u.taken.calls k) m in
       let (a, b) = (u.taken.each k low high).earlier l c in
       let (l', above, high', e') = upper g i in
       u.once l l' a (omega arith) high' (e ∙ sym e'))
 
-  count-from : (n k : ℕ) (need passed : List ℕ) → Passed k need passed
+  count_from : (n k : ℕ) (need passed : List ℕ) → Passed k need passed
       → exactly (steps rule_set heap (domain rule_set heap query) table) n need passed ≡ true → k ≡ n
   unfolding exactly
-  count-from zero zero need passed s e = refl
-  count-from zero (suc k) need passed s e = absurd (empty_out need e (fact_at words (suc k)) (s.next (omega arith)))
-  count-from (suc n) zero need passed s e =
+  count_from zero zero need passed s e = refl
+  count_from zero (suc k) need passed s e = absurd (empty_out need e (fact_at words (suc k)) (s.next (omega arith)))
+  count_from (suc n) zero need passed s e =
       let all : List Step = steps rule_set heap (domain rule_set heap query) table in
       let (t, r) = both_out (is_some need) (every (λ (g : ℕ). every (λ (called : List ℕ).
       elim (avoids called (g ∷ passed)) [ true ↦ exactly all n (leave g need ++ called) (g ∷ passed) | false ↦ true ]) (ways all g)) need) e in
       let (g, m) = some_out need t in
       let (l, low, high, q) = s.lower g m in
       absurd (omega arith)
-  count-from (suc n) (suc k) need passed s e =
+  count_from (suc n) (suc k) need passed s e =
       let all : List Step = steps rule_set heap (domain rule_set heap query) table in
       let f : ℕ = fact_at words (suc k) in
       let mine : List ℕ = map (fact_at words) (u.taken.calls (suc k)) in
@@ -167,15 +167,15 @@ module _ (rule_set : RuleSet) (heap : Heap) (p : ℕ) (query words : List ℕ) (
       elim (avoids called (g ∷ passed)) [ true ↦ exactly all n (leave g need ++ called) (g ∷ passed) | false ↦ true ]) (ways all g)) need r f (s.next (omega arith)) in
       let way : (elim (avoids mine (f ∷ passed)) as (λ b. Bool) [ true ↦ exactly all n (leave f need ++ mine) (f ∷ passed) | false ↦ true ]) ≡ true =
       every_out (λ (called : List ℕ). elim (avoids called (f ∷ passed)) [ true ↦ exactly all n (leave f need ++ called) (f ∷ passed) | false ↦ true ])
-      (ways all f) here mine (line-way (suc k) (omega arith) s.within) in
-      let clear : avoids mine (f ∷ passed) ≡ true = calls-avoid (suc k) (f ∷ passed) s.within (omega arith)
+      (ways all f) here mine (line_way (suc k) (omega arith) s.within) in
+      let clear : avoids mine (f ∷ passed) ≡ true = calls_avoid (suc k) (f ∷ passed) s.within (omega arith)
       (λ g m. ⊎_elim (λ q. (suc k, omega arith, s.within, sym q)) (λ i. let (l, above, high, q) = s.upper g i in (l, omega arith, high, q)) (Memᴰ.cases_cons m)) in
-      ap suc (count-from n k (leave f need ++ mine) (f ∷ passed) (pass k need passed s) (rw clear at way))
+      ap suc (count_from n k (leave f need ++ mine) (f ∷ passed) (pass k need passed s) (rw clear at way))
 
   -- the number of lines of a certificate of the engine's kind
-  pub line-count : (n : ℕ) → exactly (steps rule_set heap (domain rule_set heap query) table) n (fact (domain rule_set heap query) p query (whole_of heap) ∷ []) [] ≡ true
+  pub line_count : (n : ℕ) → exactly (steps rule_set heap (domain rule_set heap query) table) n (fact (domain rule_set heap query) p query (whole_of heap) ∷ []) [] ≡ true
       → u.taken.count ≡ n
-  line-count n e = count-from n u.taken.count (fact (domain rule_set heap query) p query (whole_of heap) ∷ []) [] start e
+  line_count n e = count_from n u.taken.count (fact (domain rule_set heap query) p query (whole_of heap) ∷ []) [] start e
     where
       start : Passed u.taken.count (fact (domain rule_set heap query) p query (whole_of heap) ∷ []) []
       start = record {

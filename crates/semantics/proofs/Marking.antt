@@ -12,8 +12,8 @@ marks_append Marks.none m = m
 marks_append (Marks.next e k) m = Marks.next e (marks_append k m)
 
 pub marks_split : {mask after : ℕ} (xs : List ℕ) {ys : List ℕ} → Marks mask (xs ++ ys) after → (middle : ℕ) × Marks mask xs middle × Marks middle ys after
-marks_split {mask} [] m = (mask, Marks.none, m)
-marks_split (x ∷ xs) (Marks.next e m) = let (k, p, q) = marks_split xs m in (k, Marks.next e p, q)
+marks_split {mask = mask} [] m = (mask, Marks.none, m)
+marks_split {mask = mask} (x ∷ xs) (Marks.next e m) = let (k, p, q) = marks_split {mask = 2 ^ x + mask} xs m in (k, Marks.next e p, q)
 
 marks_once : {mask a b : ℕ} {xs : List ℕ} → Marks mask xs a → Marks mask xs b → a ≡ b
 marks_once Marks.none Marks.none = refl

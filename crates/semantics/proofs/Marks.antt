@@ -96,25 +96,25 @@ module _ (back : List ℕ) where
       (value_same short c.before c.count c.values c.whole c.fewer))
 
   -- a constant of a book
-  book-same : (counts listed : List ℕ) → ValueDue listed
+  book_same : (counts listed : List ℕ) → ValueDue listed
       → rule_set (length counts ∷ (counts ++ (listed ++ zeroed))) ≡ rule_set (length counts ∷ (counts ++ (listed ++ marked)))
-  book-same counts listed next =
+  book_same counts listed next =
       then_same _
       (test_alike (counts ++ (listed ++ zeroed)) (counts ++ (listed ++ marked)) (leb 1 (length counts)) 2 (length counts) _
       (test_alike (counts ++ (listed ++ zeroed)) (counts ++ (listed ++ marked)) (leb (length counts) 8) 2 (length counts) _
       (arguments_alike (listed ++ zeroed) (listed ++ marked) counts)))
       (λ arities. on_same _ (counted_same 1 2 8 listed next))
 
-  constant-same : (front : List ℕ) → AtConstant front → read_rule_set (front ++ zeroed) ≡ read_rule_set (front ++ marked)
+  constant_same : (front : List ℕ) → AtConstant front → read_rule_set (front ++ zeroed) ≡ read_rule_set (front ++ marked)
   unfolding read_rule_set
-  constant-same front at =
+  constant_same front at =
       rw (at.is_front, append_assoc at.arguments at.listed zeroed, append_assoc at.arguments at.listed marked)
-      (ap (all 4) (book-same at.arguments at.listed at.next))
+      (ap (all 4) (book_same at.arguments at.listed at.next))
 
   -- a value of a question
-  query-same : (arities front : List ℕ) → AtValue front → read_query arities (front ++ zeroed) ≡ read_query arities (front ++ marked)
+  query_same : (arities front : List ℕ) → AtValue front → read_query arities (front ++ zeroed) ≡ read_query arities (front ++ marked)
   unfolding read_query
-  query-same arities front at =
+  query_same arities front at =
       rw (at.is_front, at.next.is_front)
       (ap (all 9)
       (test_same (_ ∷ (at.next.values ++ zeroed)) (_ ∷ (at.next.values ++ marked)) (ltb at.predicate (length arities)) 9 at.predicate _
@@ -122,24 +122,25 @@ module _ (back : List ℕ) where
       (on_same _ (value_same 9 at.next.before at.next.count at.next.values at.next.whole at.next.fewer)))))
 
   -- a field of a record
-  field-of-same : (n low : ℕ) (front : List ℕ) → AtFieldOf n front → records n low (front ++ zeroed) ≡ records n low (front ++ marked)
+  field_of_same : (n low : ℕ) (front : List ℕ) → AtFieldOf n front → records n low (front ++ zeroed) ≡ records n low (front ++ marked)
   unfolding records counted word times
-  field-of-same (suc n) low _ (AtFieldOf.here a b c d fields next) =
+  field_of_same zero low _ at = elim at [ ]
+  field_of_same (suc n) low _ (AtFieldOf.here a b c d fields next) =
       test_same (fields ++ zeroed) (fields ++ marked) (is_address low (digits 256 (a ∷ b ∷ c ∷ d ∷ []))) 7 (digits 256 (a ∷ b ∷ c ∷ d ∷ [])) _
       (on_same _ (counted_same 5 6 4 fields next))
-  field-of-same (suc n) low _ (AtFieldOf.later a b c d count fields front e next) =
+  field_of_same (suc n) low _ (AtFieldOf.later a b c d count fields front e next) =
       rw (append_assoc fields front zeroed, append_assoc fields front marked)
       (test_same (count ∷ (fields ++ (front ++ zeroed))) (count ∷ (fields ++ (front ++ marked))) (is_address low (digits 256 (a ∷ b ∷ c ∷ d ∷ []))) 7 (digits 256 (a ∷ b ∷ c ∷ d ∷ [])) _
       (then_same _
       (test_alike (fields ++ (front ++ zeroed)) (fields ++ (front ++ marked)) (leb count 4) 6 count (λ n. times n (value 5)) (values_alike (front ++ zeroed) (front ++ marked) 5 count fields e))
-      (λ fs. on_same _ (field-of-same n (digits 256 (a ∷ b ∷ c ∷ d ∷ [])) front next))))
+      (λ fs. on_same _ (field_of_same n (digits 256 (a ∷ b ∷ c ∷ d ∷ [])) front next))))
 
-  field-same : (front : List ℕ) → AtField front → read_snapshot (front ++ zeroed) ≡ read_snapshot (front ++ marked)
+  field_same : (front : List ℕ) → AtField front → read_snapshot (front ++ zeroed) ≡ read_snapshot (front ++ marked)
   unfolding read_snapshot
-  field-same front at =
+  field_same front at =
       rw at.is_front
       (ap (all 8)
-      (test_same (at.records ++ zeroed) (at.records ++ marked) (leb at.count 16) 6 at.count (λ n. records n 0) (field-of-same at.count 0 at.records at.next)))
+      (test_same (at.records ++ zeroed) (at.records ++ marked) (leb at.count 16) 6 at.count (λ n. records n 0) (field_of_same at.count 0 at.records at.next)))
 
 -- ---- any number of places
 
@@ -159,40 +160,40 @@ over b s q =
 
 module _ {book snapshot question book' snapshot' question' : List ℕ} (in-book : Respelled AtConstant book book') (in-snapshot : Respelled AtField snapshot snapshot')
     (in-question : Respelled AtValue question question') where
-  pub marks-as-nil : ladder book snapshot question ≡ ladder book' snapshot' question'
+  pub marks_as_nil : ladder book snapshot question ≡ ladder book' snapshot' question'
   unfolding ladder
-  marks-as-nil =
-      ap (λ (b : Result RuleSet). over b (read_snapshot snapshot) (λ a. read_query a question)) (respelled read_rule_set constant-same in-book)
-      ∙ ap (λ (s : Result Heap). over (read_rule_set book') s (λ a. read_query a question)) (respelled read_snapshot field-same in-snapshot)
+  marks_as_nil =
+      ap (λ (b : Result RuleSet). over b (read_snapshot snapshot) (λ a. read_query a question)) (respelled read_rule_set constant_same in-book)
+      ∙ ap (λ (s : Result Heap). over (read_rule_set book') s (λ a. read_query a question)) (respelled read_snapshot field_same in-snapshot)
       ∙ ap (λ (q : List ℕ → Result Query). over (read_rule_set book') (read_snapshot snapshot') q)
-      (fun_ext (λ arities. respelled (read_query arities) (λ back. query-same back arities) in-question))
+      (fun_ext (λ arities. respelled (read_query arities) (λ back. query_same back arities) in-question))
 
-  served-as-nil : {Lends : Type 0} {Refuses : ℕ → Type 0} {Answered : Input → Type 0}
+  served_as_nil : {Lends : Type 0} {Refuses : ℕ → Type 0} {Answered : Input → Type 0}
       → Served (λ (r : Result Input). ladder book snapshot question ≡ r) Lends Refuses Answered
       → Served (λ (r : Result Input). ladder book' snapshot' question' ≡ r) Lends Refuses Answered
-  served-as-nil {Lends} {Refuses} {Answered} s = subst (λ (l : Result Input). Served (λ (r : Result Input). l ≡ r) Lends Refuses Answered) marks-as-nil s
+  served_as_nil {Lends} {Refuses} {Answered} s = subst (λ (l : Result Input). Served (λ (r : Result Input). l ≡ r) Lends Refuses Answered) marks_as_nil s
 
-  pub decided-as-nil : {table space : List ℕ} {r : Reply} {t x : List ℕ} → Decided book snapshot question table space r t x
+  pub decided_as_nil : {table space : List ℕ} {r : Reply} {t x : List ℕ} → Decided book snapshot question table space r t x
       → Decided book' snapshot' question' table space r t x
-  decided-as-nil = served-as-nil
+  decided_as_nil = served_as_nil
 
-  pub found-as-nil : {table space : List ℕ} {r : PartReply} {t x : List ℕ} → Found book snapshot question table space r t x
+  pub found_as_nil : {table space : List ℕ} {r : PartReply} {t x : List ℕ} → Found book snapshot question table space r t x
       → Found book' snapshot' question' table space r t x
-  found-as-nil = served-as-nil
+  found_as_nil = served_as_nil
 
-  pub checked-as-nil : {words : List ℕ} {r : CheckReply} → Checked book snapshot question words r → Checked book' snapshot' question' words r
-  checked-as-nil = served-as-nil
+  pub checked_as_nil : {words : List ℕ} {r : CheckReply} → Checked book snapshot question words r → Checked book' snapshot' question' words r
+  checked_as_nil = served_as_nil
 
-  pub checked-part-as-nil : {part : ℕ} {words : List ℕ} {r : CheckReply} → CheckedPart book snapshot question part words r
+  pub checked_part_as_nil : {part : ℕ} {words : List ℕ} {r : CheckReply} → CheckedPart book snapshot question part words r
       → CheckedPart book' snapshot' question' part words r
-  checked-part-as-nil = served-as-nil
+  checked_part_as_nil = served_as_nil
 
-  pub walked-as-nil : {r : WalkReply} → Walked book snapshot question r → Walked book' snapshot' question' r
-  walked-as-nil = served-as-nil
+  pub walked_as_nil : {r : WalkReply} → Walked book snapshot question r → Walked book' snapshot' question' r
+  walked_as_nil = served_as_nil
 
-  pub desk-decided-as-nil : {n : ℕ} → DeskDecided book snapshot question n → DeskDecided book' snapshot' question' n
-  desk-decided-as-nil d =
-      record { reply = d.reply; table = d.table; space = d.space; decided = decided-as-nil d.decided; is_number = d.is_number }
+  pub desk_decided_as_nil : {n : ℕ} → DeskDecided book snapshot question n → DeskDecided book' snapshot' question' n
+  desk_decided_as_nil d =
+      record { reply = d.reply; table = d.table; space = d.space; decided = decided_as_nil d.decided; is_number = d.is_number }
 
-  pub desk-checked-as-nil : {bytes : List ℕ} {n : ℕ} → DeskChecked book snapshot question bytes n → DeskChecked book' snapshot' question' bytes n
-  desk-checked-as-nil = served-as-nil
+  pub desk_checked_as_nil : {bytes : List ℕ} {n : ℕ} → DeskChecked book snapshot question bytes n → DeskChecked book' snapshot' question' bytes n
+  desk_checked_as_nil = served_as_nil

@@ -18,17 +18,17 @@ takes_below {heap} (Takes.atom {i = k} h e rest) i m =
     ⊎_elim (λ (q : i ≡ k). rw q h) (takes_below rest i) (Memᴰ.cases_cons m)
 
 mutual
-  pub tree-below : {rule_set : RuleSet} {heap : Heap} {p : ℕ} {vs taken : List ℕ} → Tree rule_set heap p vs taken → (i : ℕ) → i among taken → i < length heap
-  tree-below (Tree.node rule bound is below p a forest e) i m =
-      ⊎_elim (takes_below a.takes i) (λ k. forest-below forest i k) (Memᴰ.append_cases is (rw e at m))
+  pub tree_below : {rule_set : RuleSet} {heap : Heap} {p : ℕ} {vs taken : List ℕ} → Tree rule_set heap p vs taken → (i : ℕ) → i among taken → i < length heap
+  tree_below (Tree.node rule bound is below p a forest e) i m =
+      ⊎_elim (takes_below a.takes i) (λ k. forest_below forest i k) (Memᴰ.append_cases is (rw e at m))
 
-  pub forest-below : {rule_set : RuleSet} {heap : Heap} {σ : List ℕ} {calls : List Call} {taken : List ℕ} → Forest rule_set heap σ calls taken → (i : ℕ) → i among taken → i < length heap
-  forest-below Forest.none i m = absurd (Memᴰ.not-nil m)
-  forest-below (Forest.next here rest t forest e) i m =
-      ⊎_elim (λ k. tree-below t i k) (λ k. forest-below forest i k) (Memᴰ.append_cases here (rw e at m))
+  pub forest_below : {rule_set : RuleSet} {heap : Heap} {σ : List ℕ} {calls : List Call} {taken : List ℕ} → Forest rule_set heap σ calls taken → (i : ℕ) → i among taken → i < length heap
+  forest_below Forest.none i m = absurd (Memᴰ.not-nil m)
+  forest_below (Forest.next here rest t forest e) i m =
+      ⊎_elim (λ k. tree_below t i k) (λ k. forest_below forest i k) (Memᴰ.append_cases here (rw e at m))
 
 pub small_part : {rule_set : RuleSet} {heap : Heap} {p : ℕ} {vs taken : List ℕ} → length heap ≤ 16 → Tree rule_set heap p vs taken → Distinct taken → set_of taken < 65536
-small_part {taken} h t d = set_of_below 16 taken d (λ i m. omega (arith, tree-below t i m))
+small_part {taken} h t d = set_of_below 16 taken d (λ i m. omega (arith, tree_below t i m))
 
 -- from lists without repeat to a join
 pub joins_atoms : (indices below parts : List ℕ) → Distinct (indices ++ below) → Joins parts (set_of below)

@@ -10,7 +10,7 @@ use borrow.Author.Tests.{lt-ltb, le-ltb}
 use Rattle.semantics.specs.{Lists.◌among◌, Tree.value_of, Tree.Compare, Tree.Meets}
 use Rattle.semantics.specs.RuleSet.{Term, var, fixed, Kind, Pure, PointsTo, Call, Rule, RuleSet, arity, variables, blank_rule, rule_of, fixed_values, InScope, WellFormedRule, WellFormed}
 use Rattle.semantics.specs.Plain.{Consumes, Consuming, VariablesFixed, Allows, Exclude, Exclusive, Plain}
-use Rattle.semantics.proofs.{Decisions.all_decided, Decisions.below_decided, FixedDecided.all-fixed-decided, Unifying.value, Unifying.Met, Unifying.Solved, Unifying.solved_decided, Taking.get_d_member}
+use Rattle.semantics.proofs.{Decisions.all_decided, Decisions.below_decided, FixedDecided.all_fixed_decided, Unifying.value, Unifying.Met, Unifying.Solved, Unifying.solved_decided, Taking.get_d_member}
 
 -- ---- numbers as lists
 
@@ -55,26 +55,26 @@ same_met kind p q = subst₂ (λ (u w : ℕ). Compare kind u w) p q
 
 -- a list of a rule's values, and numbers for all variables
 module _ (k n m : ℕ) (vs : List ℕ) (τ : List ℕ) (σ : ℕ → ℕ) (same : (v : ℕ) → v < m → get_or τ v 0 ≡ σ (seat_of k n v)) where
-  second-value : (t : Term) → InScope vs m t → value_of τ t ≡ value σ (shifted k n t)
-  second-value (var v) h = same v h
-  second-value (fixed x) h = refl
+  second_value : (t : Term) → InScope vs m t → value_of τ t ≡ value σ (shifted k n t)
+  second_value (var v) h = same v h
+  second_value (fixed x) h = refl
 
-  second-in : (p : Pure) → InScope vs m p.left → InScope vs m p.right → Meets τ p → Met σ (shifted_pure k n p)
-  second-in p l r = same_met p.kind (second-value p.left l) (second-value p.right r)
+  second_in : (p : Pure) → InScope vs m p.left → InScope vs m p.right → Meets τ p → Met σ (shifted_pure k n p)
+  second_in p l r = same_met p.kind (second_value p.left l) (second_value p.right r)
 
-  second-out : (p : Pure) → InScope vs m p.left → InScope vs m p.right → Met σ (shifted_pure k n p) → Meets τ p
-  second-out p l r = same_met p.kind (sym (second-value p.left l)) (sym (second-value p.right r))
+  second_out : (p : Pure) → InScope vs m p.left → InScope vs m p.right → Met σ (shifted_pure k n p) → Meets τ p
+  second_out p l r = same_met p.kind (sym (second_value p.left l)) (sym (second_value p.right r))
 
 module _ (m : ℕ) (vs : List ℕ) (τ : List ℕ) (σ : ℕ → ℕ) (same : (v : ℕ) → v < m → get_or τ v 0 ≡ σ v) where
-  first-value : (t : Term) → InScope vs m t → value_of τ t ≡ value σ t
-  first-value (var v) h = same v h
-  first-value (fixed x) h = refl
+  first_value : (t : Term) → InScope vs m t → value_of τ t ≡ value σ t
+  first_value (var v) h = same v h
+  first_value (fixed x) h = refl
 
-  first-in : (p : Pure) → InScope vs m p.left → InScope vs m p.right → Meets τ p → Met σ p
-  first-in p l r = same_met p.kind (first-value p.left l) (first-value p.right r)
+  first_in : (p : Pure) → InScope vs m p.left → InScope vs m p.right → Meets τ p → Met σ p
+  first_in p l r = same_met p.kind (first_value p.left l) (first_value p.right r)
 
   first_out : (p : Pure) → InScope vs m p.left → InScope vs m p.right → Met σ p → Meets τ p
-  first_out p l r = same_met p.kind (sym (first-value p.left l)) (sym (first-value p.right r))
+  first_out p l r = same_met p.kind (sym (first_value p.left l)) (sym (first_value p.right r))
 
 module _ (rule_set : RuleSet) (rule other : Rule) (formed : WellFormedRule rule_set rule) (formed' : WellFormedRule rule_set other) (heads : rule.head ≡ other.head) where
   abbrev k : ℕ
@@ -83,27 +83,27 @@ module _ (rule_set : RuleSet) (rule other : Rule) (formed : WellFormedRule rule_
   abbrev n : ℕ
   n = rule.bound
 
-  same-variables : variables rule_set other ≡ k + other.bound
-  same-variables = ap (λ (p : ℕ). arity rule_set p + other.bound) (sym heads)
+  same_variables : variables rule_set other ≡ k + other.bound
+  same_variables = ap (λ (p : ℕ). arity rule_set p + other.bound) (sym heads)
 
   abbrev together : List Pure
   together = rule.pures ++ map (shifted_pure k n) other.pures
 
   left' : (p : Pure) → p among other.pures → InScope (fixed_values rule_set) (k + other.bound) p.left
-  left' p m = rw (← same-variables) (formed'.pures_left p m)
+  left' p m = rw (← same_variables) (formed'.pures_left p m)
 
   right' : (p : Pure) → p among other.pures → InScope (fixed_values rule_set) (k + other.bound) p.right
-  right' p m = rw (← same-variables) (formed'.pures_right p m)
+  right' p m = rw (← same_variables) (formed'.pures_right p m)
 
   -- numbers that meet both, from arguments that both allow
-  both-solved : (a : List ℕ) → length a ≡ k → Allows rule a → Allows other a → Solved together
-  both-solved a la one two = record {
+  both_solved : (a : List ℕ) → length a ≡ k → Allows rule a → Allows other a → Solved together
+  both_solved a la one two = record {
     σ = σ;
     meets = λ p m. ⊎_elim
-        (λ i. first-in (k + n) (fixed_values rule_set) (a ++ one.bound) σ own p (formed.pures_left p i) (formed.pures_right p i) (one.meets p i))
+        (λ i. first_in (k + n) (fixed_values rule_set) (a ++ one.bound) σ own p (formed.pures_left p i) (formed.pures_right p i) (one.meets p i))
         (λ i.
         let (q, mq, e) = Memᴰ.of_map (shifted_pure k n) other.pures i in
-        rw (← e) (second-in k n (k + other.bound) (fixed_values rule_set) (a ++ two.bound) σ others q (left' q mq) (right' q mq) (two.meets q mq)))
+        rw (← e) (second_in k n (k + other.bound) (fixed_values rule_set) (a ++ two.bound) σ others q (left' q mq) (right' q mq) (two.meets q mq)))
         (Memᴰ.append_cases rule.pures m);
   }
     where
@@ -128,8 +128,8 @@ module _ (rule_set : RuleSet) (rule other : Rule) (formed : WellFormedRule rule_
               ∙ sym (ap (λ (i : ℕ). get_or ((a ++ one.bound) ++ two.bound) i 0) far ∙ get_or-append-add (a ++ one.bound) two.bound (v - k) 0))
 
   -- and arguments that both allow, from such numbers
-  solved-both : Solved together → ¬ Exclude rule_set rule other
-  solved-both s exclude =
+  solved_both : Solved together → ¬ Exclude rule_set rule other
+  solved_both s exclude =
       exclude heads (firsts k s.σ) (firsts-length k s.σ)
       (record {
         bound = firsts n (λ i. s.σ (k + i));
@@ -140,7 +140,7 @@ module _ (rule_set : RuleSet) (rule other : Rule) (formed : WellFormedRule rule_
       (record {
         bound = firsts other.bound (λ i. s.σ (k + n + i));
         bound_counted = firsts-length other.bound (λ i. s.σ (k + n + i));
-        meets = λ p m. second-out k n (k + other.bound) (fixed_values rule_set) (firsts k s.σ ++ firsts other.bound (λ i. s.σ (k + n + i))) s.σ others p (left' p m) (right' p m)
+        meets = λ p m. second_out k n (k + other.bound) (fixed_values rule_set) (firsts k s.σ ++ firsts other.bound (λ i. s.σ (k + n + i))) s.σ others p (left' p m) (right' p m)
             (s.meets (shifted_pure k n p) (Memᴰ.append_right rule.pures (Memᴰ.map (shifted_pure k n) m)));
       })
     where
@@ -166,8 +166,8 @@ exclude_decided rule_set rule other f g = step (ℕ_discrete rule.head other.hea
     step : Dec (rule.head ≡ other.head) → Dec (Exclude rule_set rule other)
     step (no q) = yes (λ e. absurd (q e))
     step (yes e) = elim (solved_decided (together rule_set rule other f g e)) [
-      | yes s ↦ no (solved-both rule_set rule other f g e s)
-      | no q ↦ yes (λ h a counted one two. q (both-solved rule_set rule other f g e a counted one two))
+      | yes s ↦ no (solved_both rule_set rule other f g e s)
+      | no q ↦ yes (λ h a counted one two. q (both_solved rule_set rule other f g e a counted one two))
     ]
 
 consumes_decided : (rule : Rule) → Dec (Consumes rule)
@@ -188,7 +188,7 @@ plain_decided rule_set formed = step consuming all_fixed exclusive
     consuming = all_decided Consumes rule_set.rules (λ rule m. consumes_decided rule)
 
     all_fixed : Dec (VariablesFixed rule_set)
-    all_fixed = all_decided _ rule_set.rules (λ rule m. all-fixed-decided rule_set rule (formed.each rule m))
+    all_fixed = all_decided _ rule_set.rules (λ rule m. all_fixed_decided rule_set rule (formed.each rule m))
 
     pairs : Dec ((j : ℕ) → j < length rule_set.rules → (i : ℕ) → i < j → Exclude rule_set (rule_of rule_set i) (rule_of rule_set j))
     pairs =

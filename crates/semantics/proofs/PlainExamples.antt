@@ -69,8 +69,8 @@ abbrev pub differ : Pure
 differ = differs (var 0) (var 1)
 
 module _ (pures : List Pure) where
-  longer-fixed : AllFixed (segments pures) (longer pures)
-  longer-fixed v h =
+  longer_fixed : AllFixed (segments pures) (longer pures)
+  longer_fixed v h =
       by_cases (dec_lt v 2) (λ l. Fixed.of_head l)
       (λ n.
       let e : v ≡ 2 = omega arith in
@@ -80,7 +80,7 @@ module _ (pures : List Pure) where
 pub segment_plain : Plain (segments (differ ∷ []))
 segment_plain = record {
   consuming = both Consumes (λ h. absurd (h refl)) (λ h e. cons≢nil e);
-  all_fixed = both (AllFixed (segments (differ ∷ []))) (λ v h. Fixed.of_head (omega arith)) (longer-fixed (differ ∷ []));
+  all_fixed = both (AllFixed (segments (differ ∷ []))) (λ v h. Fixed.of_head (omega arith)) (longer_fixed (differ ∷ []));
   exclusive =
       exclusive_pair (segments (differ ∷ [])) refl
       (contrary (segments (differ ∷ [])) empty (longer (differ ∷ [])) (var 0) (var 1) (omega arith) (omega arith) (Memᴰ.head refl) (Memᴰ.head refl));
@@ -90,7 +90,7 @@ segment_plain = record {
 pub overlapping_alone : Consuming (segments []) × VariablesFixed (segments []) × (¬ Exclusive (segments []))
 overlapping_alone = (
   both Consumes (λ h. absurd (h refl)) (λ h e. cons≢nil e),
-  both (AllFixed (segments [])) (λ v h. Fixed.of_head (omega arith)) (longer-fixed []),
+  both (AllFixed (segments [])) (λ v h. Fixed.of_head (omega arith)) (longer_fixed []),
   λ exclusive.
       exclusive 0 1 (omega arith) (omega arith) refl (0 ∷ 0 ∷ []) refl
       (record {
@@ -124,18 +124,18 @@ trees = record { arities = 1 ∷ []; constants = []; rules = leaf ∷ fork ∷ [
 pub tree_plain : Plain trees
 tree_plain = record {
   consuming = both Consumes (λ h. absurd (h refl)) (λ h e. cons≢nil e);
-  all_fixed = both (AllFixed trees) (λ v h. Fixed.of_head (omega arith)) fork-fixed;
+  all_fixed = both (AllFixed trees) (λ v h. Fixed.of_head (omega arith)) fork_fixed;
   exclusive = exclusive_pair trees refl (contrary trees leaf fork (var 0) (fixed 0) (omega arith) tt (Memᴰ.head refl) (Memᴰ.head refl));
 }
   where
     address : Fixed trees fork (var 0)
     address = Fixed.of_head {v = 0} (omega arith)
 
-    fork-fixed : AllFixed trees fork
-    fork-fixed zero h = address
-    fork-fixed (suc zero) h = Fixed.of_field (Memᴰ.head refl) (Memᴰ.head refl) address
-    fork-fixed (suc (suc zero)) h = Fixed.of_field (Memᴰ.head refl) (Memᴰ.tail (Memᴰ.head refl)) address
-    fork-fixed (suc (suc (suc v))) h = absurd (omega arith)
+    fork_fixed : AllFixed trees fork
+    fork_fixed zero h = address
+    fork_fixed (suc zero) h = Fixed.of_field (Memᴰ.head refl) (Memᴰ.head refl) address
+    fork_fixed (suc (suc zero)) h = Fixed.of_field (Memᴰ.head refl) (Memᴰ.tail (Memᴰ.head refl)) address
+    fork_fixed (suc (suc (suc v))) h = absurd (omega arith)
 
 -- ---- rules of two predicates
 
@@ -159,7 +159,7 @@ kinds = record { arities = 1 ∷ 1 ∷ []; constants = []; rules = tied ∷ bare
 pub kinds_plain : Plain kinds
 kinds_plain = record {
   consuming = both Consumes (λ h e. cons≢nil e) (λ h. absurd (h refl));
-  all_fixed = both (AllFixed kinds) tied-fixed (λ v h. Fixed.of_head (omega arith));
+  all_fixed = both (AllFixed kinds) tied_fixed (λ v h. Fixed.of_head (omega arith));
   exclusive = exclusive_pair kinds refl (λ e. absurd (omega (arith, e)));
 }
   where
@@ -169,13 +169,13 @@ kinds_plain = record {
     field : Fixed kinds tied (var 3)
     field = Fixed.of_field (Memᴰ.head refl) (Memᴰ.head refl) address
 
-    tied-fixed : AllFixed kinds tied
-    tied-fixed zero h = Fixed.of_head {v = 0} (omega arith)
-    tied-fixed (suc zero) h = address
-    tied-fixed (suc (suc zero)) h = Fixed.to_right (Memᴰ.tail (Memᴰ.head refl)) Fixed.fixed_value
-    tied-fixed (suc (suc (suc zero))) h = field
-    tied-fixed (suc (suc (suc (suc zero)))) h = Fixed.to_right (Memᴰ.tail (Memᴰ.tail (Memᴰ.head refl))) field
-    tied-fixed (suc (suc (suc (suc (suc v))))) h = absurd (omega arith)
+    tied_fixed : AllFixed kinds tied
+    tied_fixed zero h = Fixed.of_head {v = 0} (omega arith)
+    tied_fixed (suc zero) h = address
+    tied_fixed (suc (suc zero)) h = Fixed.to_right (Memᴰ.tail (Memᴰ.head refl)) Fixed.fixed_value
+    tied_fixed (suc (suc (suc zero))) h = field
+    tied_fixed (suc (suc (suc (suc zero)))) h = Fixed.to_right (Memᴰ.tail (Memᴰ.tail (Memᴰ.head refl))) field
+    tied_fixed (suc (suc (suc (suc (suc v))))) h = absurd (omega arith)
 
 -- ---- two constants, each the only argument of a rule, which has a record that holds the constant
 
@@ -192,38 +192,38 @@ abbrev pub codes : ℕ → ℕ → RuleSet
 codes x y = record { arities = 1 ∷ []; constants = x ∷ y ∷ []; rules = coded x ∷ coded y ∷ [] }
 
 module _ (x y : ℕ) where
-  each-coded : (P : Rule → Type 0) → ((code : ℕ) → P (coded code)) → (rule : Rule) → rule among (codes x y).rules → P rule
-  each-coded P p = both P (p x) (p y)
+  each_coded : (P : Rule → Type 0) → ((code : ℕ) → P (coded code)) → (rule : Rule) → rule among (codes x y).rules → P rule
+  each_coded P p = both P (p x) (p y)
 
-  codes-consume : Consuming (codes x y)
-  codes-consume = each-coded Consumes (λ code h. absurd (h refl))
+  codes_consume : Consuming (codes x y)
+  codes_consume = each_coded Consumes (λ code h. absurd (h refl))
 
   -- a constant fixes the variable that it is equal to
-  codes-fixed : VariablesFixed (codes x y)
-  codes-fixed = each-coded (AllFixed (codes x y)) (λ code v h.
+  codes_fixed : VariablesFixed (codes x y)
+  codes_fixed = each_coded (AllFixed (codes x y)) (λ code v h.
       by_cases (dec_lt v 1) (λ l. Fixed.of_head l)
       (λ n.
       let e : v ≡ 1 = omega arith in
       subst (λ (u : ℕ). Fixed (codes x y) (coded code) (var u)) (sym e) (Fixed.to_right (Memᴰ.tail (Memᴰ.head refl)) Fixed.fixed_value)))
 
   -- the first argument is the constant wherever the conditions are met
-  code-met : (code : ℕ) (arguments : List ℕ) → length arguments ≡ 1 → Allows (coded code) arguments → get_or arguments 0 0 ≡ code
-  code-met code arguments counted a =
+  code_met : (code : ℕ) (arguments : List ℕ) → length arguments ≡ 1 → Allows (coded code) arguments → get_or arguments 0 0 ≡ code
+  code_met code arguments counted a =
       sym (get_or-append arguments a.bound 0 0 (omega arith)) ∙ a.meets (equals (var 0) (fixed code)) (Memᴰ.head refl)
 
   -- Two different constants are unequal.
-  pub codes-plain : x ≢ y → Plain (codes x y)
-  codes-plain differ = record {
-    consuming = codes-consume;
-    all_fixed = codes-fixed;
-    exclusive = exclusive_pair (codes x y) refl (λ e arguments counted a b. differ (sym (code-met x arguments counted a) ∙ code-met y arguments counted b));
+  pub codes_plain : x ≢ y → Plain (codes x y)
+  codes_plain differ = record {
+    consuming = codes_consume;
+    all_fixed = codes_fixed;
+    exclusive = exclusive_pair (codes x y) refl (λ e arguments counted a b. differ (sym (code_met x arguments counted a) ∙ code_met y arguments counted b));
   }
 
 -- Only their values matter: the same constant twice is one.
 pub codes_alone : (x : ℕ) → Consuming (codes x x) × VariablesFixed (codes x x) × (¬ Exclusive (codes x x))
 codes_alone x = (
-  codes-consume x x,
-  codes-fixed x x,
+  codes_consume x x,
+  codes_fixed x x,
   λ exclusive. exclusive 0 1 (omega arith) (omega arith) refl (x ∷ []) refl allowed allowed,
 )
   where

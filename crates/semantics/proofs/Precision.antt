@@ -61,9 +61,9 @@ module _ (rule_set : RuleSet) (heap : Heap) (ordered : Ordered heap) where
         (λ k counted. plain.exclusive m n l h k arguments counted)
 
     -- two rules that apply have one number
-    one-rule : {rule other : Rule} {arguments b c is js : List ℕ} → rule.head ≡ other.head
+    one_rule : {rule other : Rule} {arguments b c is js : List ℕ} → rule.head ≡ other.head
         → Applies rule_set heap rule arguments b is → Applies rule_set heap other arguments c js → rule ≡ other
-    one-rule {rule} {other} {arguments} e a a' =
+    one_rule {rule} {other} {arguments} e a a' =
         let (i, hi, ei) = spot blank_rule a.listed in
         let (j, hj, ej) = spot blank_rule a'.listed in
         by_cases (ℕ_discrete i j) (λ q. sym ei ∙ ap (rule_of rule_set) q ∙ ej)
@@ -78,31 +78,31 @@ module _ (rule_set : RuleSet) (heap : Heap) (ordered : Ordered heap) where
         (λ v h. fixed_same a a' (plain.all_fixed rule a.listed v (omega (arith, length-append arguments b, a.arguments_counted, a.bound_counted)))))
 
     -- Rule, values and records are decided by the predicate and its arguments.
-    pub one-step : {rule other : Rule} {arguments b c is js : List ℕ} → rule.head ≡ other.head
+    pub one_step : {rule other : Rule} {arguments b c is js : List ℕ} → rule.head ≡ other.head
         → Applies rule_set heap rule arguments b is → Applies rule_set heap other arguments c js → SameStep rule other b c is js
-    one-step {rule} {other} {arguments} {b} {c} {is} {js} e a a' =
-        let r = one-rule e a a' in
+    one_step {rule} {other} {arguments} {b} {c} {is} {js} e a a' =
+        let r = one_rule e a a' in
         let a'' : Applies rule_set heap rule arguments c js = rw r a' in
         let q = one_choice a a'' in
         record { same_rule = r; same_bound = q; same_indices = takes_same ordered (rw (← q) a.takes) a''.takes }
 
     mutual
-      pub tree-same : {p : ℕ} {vs xs ys : List ℕ} → Tree rule_set heap p vs xs → Tree rule_set heap p vs ys → xs ≡ ys
-      tree-same {vs = vs} (Tree.node rule b is below e a forest t) (Tree.node other c js below' e' a' forest' t') =
-          let s = one-step (sym e ∙ e') a a' in
+      pub tree_same : {p : ℕ} {vs xs ys : List ℕ} → Tree rule_set heap p vs xs → Tree rule_set heap p vs ys → xs ≡ ys
+      tree_same {vs = vs} (Tree.node rule b is below e a forest t) (Tree.node other c js below' e' a' forest' t') =
+          let s = one_step (sym e ∙ e') a a' in
           t
           ∙ ap₂ (λ (x y : List ℕ). x ++ y) s.same_indices
-          (forest-same forest (subst₂ (λ (r : Rule) (z : List ℕ). Forest rule_set heap (vs ++ z) r.calls below') (sym s.same_rule) (sym s.same_bound) forest'))
+          (forest_same forest (subst₂ (λ (r : Rule) (z : List ℕ). Forest rule_set heap (vs ++ z) r.calls below') (sym s.same_rule) (sym s.same_bound) forest'))
           ∙ sym t'
 
-      forest-same : {σ : List ℕ} {calls : List Call} {xs ys : List ℕ} → Forest rule_set heap σ calls xs → Forest rule_set heap σ calls ys → xs ≡ ys
-      forest-same Forest.none Forest.none = refl
-      forest-same (Forest.next here rest tree forest t) (Forest.next here' rest' tree' forest' t') =
-          t ∙ ap₂ (λ (x y : List ℕ). x ++ y) (tree-same tree tree') (forest-same forest forest') ∙ sym t'
+      forest_same : {σ : List ℕ} {calls : List Call} {xs ys : List ℕ} → Forest rule_set heap σ calls xs → Forest rule_set heap σ calls ys → xs ≡ ys
+      forest_same Forest.none Forest.none = refl
+      forest_same (Forest.next here rest tree forest t) (Forest.next here' rest' tree' forest' t') =
+          t ∙ ap₂ (λ (x y : List ℕ). x ++ y) (tree_same tree tree') (forest_same forest forest') ∙ sym t'
 
     -- The same records are taken, in one order, and so at most one subheap fits.
     pub precise : {p : ℕ} {vs : List ℕ} {part part' : ℕ} → (one : ByHand rule_set heap p vs part) (other : ByHand rule_set heap p vs part')
         → (one.taken ≡ other.taken) × (part ≡ part')
     precise one other =
-        let e = tree-same one.tree other.tree in
+        let e = tree_same one.tree other.tree in
         (e, one.part_taken ∙ ap set_of e ∙ sym other.part_taken)

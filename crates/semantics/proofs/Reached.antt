@@ -5,7 +5,7 @@ use native.Mathlib.{Omega.arith, Decide.dec_lt}
 use lib.ListN.{length}
 use Rattle.semantics.specs.{Heap.whole_of, Formats.Input, Formats.WellFormedInput, Fact.fact}
 use Rattle.semantics.specs.Contract.{domain_of, FitsInput, MoreFactsThan, CompletedInput}
-use Rattle.semantics.proofs.{Bits.dec_in, Pigeon.pigeon, FixedPoint.table-holds, FixedPoint.complete-has, FixedPoint.complete-unique, Verdict.verdict}
+use Rattle.semantics.proofs.{Bits.dec_in, Pigeon.pigeon, FixedPoint.table_holds, FixedPoint.complete_has, FixedPoint.complete_unique, Verdict.verdict}
 use Rattle.semantics.proofs.Termination.{completed, table_distinct}
 
 pub completed_exists : (i : Input) → WellFormedInput i → (rounds : ℕ) × (facts : List ℕ) × CompletedInput i rounds facts
@@ -13,7 +13,7 @@ completed_exists i h =
     completed i.rule_set i.heap i.values h.valid
 
 pub completed_unique : (i : Input) {r s : ℕ} {xs ys : List ℕ} → CompletedInput i r xs → CompletedInput i s ys → (r ≡ s) × (xs ≡ ys)
-completed_unique i a b = complete-unique i.rule_set i.heap (domain_of i) a.after a.complete b.after b.complete
+completed_unique i a b = complete_unique i.rule_set i.heap (domain_of i) a.after a.complete b.after b.complete
 
 -- 11 is exact: more facts than n exactly if the complete table is longer than n
 pub more_facts : (i : Input) {r : ℕ} {xs : List ℕ} → CompletedInput i r xs → (n : ℕ) → MoreFactsThan i n ↔ (n < length xs)
@@ -24,7 +24,7 @@ more_facts i {xs} c n = (to, from)
         by_cases (dec_lt (length xs) (length m.witnesses))
         (λ l.
         let p = pigeon m.witnesses xs m.distinct l in
-        absurd (p.2 (complete-has i.rule_set i.heap (domain_of i) c.complete p.0 (m.each p.0 p.1))))
+        absurd (p.2 (complete_has i.rule_set i.heap (domain_of i) c.complete p.0 (m.each p.0 p.1))))
         (λ l. omega (arith, m.many))
 
     from : n < length xs → MoreFactsThan i n
@@ -32,7 +32,7 @@ more_facts i {xs} c n = (to, from)
       witnesses = xs;
       distinct = table_distinct c.after;
       many = l;
-      each = table-holds i.rule_set i.heap (domain_of i) c.after;
+      each = table_holds i.rule_set i.heap (domain_of i) c.after;
     }
 
 -- the query is decided

@@ -11,9 +11,9 @@ use Rattle.semantics.specs.Walk.{Walks, Walked}
 use Rattle.semantics.specs.Certificate.{LineHolds, Certificate, Trimmed}
 use Rattle.semantics.specs.Contract.{domain_of, FitsInput, SomeFits, CertificatePart, CertificateInput, Answers, Finds, Checks, DeskTakes}
 use Rattle.semantics.specs.Contract.{DeskChecks, Decided, Found, Checked, CheckedPart, DeskDecided, DeskChecked}
-use Rattle.semantics.proofs.SameGrounds.{SameGrounds, more_same, filled-same}
+use Rattle.semantics.proofs.SameGrounds.{SameGrounds, more_same, filled_same}
 use Rattle.semantics.proofs.ServedFacts.{computed, clash}
-use Rattle.semantics.proofs.{SameDomain.same-domain, MoreRules.applies-more, MoreRules.part-more, MoreRules.fits_more}
+use Rattle.semantics.proofs.{SameDomain.same_domain, MoreRules.applies_more, MoreRules.part_more, MoreRules.fits_more}
 use Rattle.semantics.specs.declared.{Reply.Reply, PartReply.PartReply, CheckReply.CheckReply, WalkReply.WalkReply}
 
 -- ---- what is said of a rule set
@@ -26,10 +26,10 @@ module _ {a b : RuleSet} (same : SameRules a b) where
   kept rule m = rw same.rules at m
 
   part_same : {heap : Heap} {p : ℕ} {vs : List ℕ} {part : ℕ} → ByHand a heap p vs part → ByHand b heap p vs part
-  part_same {heap} = part-more a b heap same.arities kept
+  part_same {heap} = part_more a b heap same.arities kept
 
-  fits-same : {heap : Heap} {p : ℕ} {vs : List ℕ} → Fits a heap p vs → Fits b heap p vs
-  fits-same {heap} = fits_more a b heap same.arities kept
+  fits_same : {heap : Heap} {p : ℕ} {vs : List ℕ} → Fits a heap p vs → Fits b heap p vs
+  fits_same {heap} = fits_more a b heap same.arities kept
 
   -- plainness
   fixed_same : {rule : Rule} {term : Term} → Fixed a rule term → Fixed b rule term
@@ -39,8 +39,8 @@ module _ {a b : RuleSet} (same : SameRules a b) where
   fixed_same (Fixed.to_left m f) = Fixed.to_left m (fixed_same f)
   fixed_same (Fixed.of_field m k f) = Fixed.of_field m k (fixed_same f)
 
-  plain-same : Plain a → Plain b
-  plain-same plain = record {
+  plain_same : Plain a → Plain b
+  plain_same plain = record {
     consuming = rw same.rules at plain.consuming;
     all_fixed = λ rule m v h. fixed_same (plain.all_fixed rule (rw (← same.rules) at m) v (rw (← same.arities) at h));
     exclusive = rw (same.rules, same.arities) at plain.exclusive;
@@ -55,7 +55,7 @@ module _ {a b : RuleSet} (same : SameRules a b) where
       bound = g.bound;
       indices = g.indices;
       part = g.part;
-      applies = applies-more a b heap same.arities kept g.applies;
+      applies = applies_more a b heap same.arities kept g.applies;
       keeps = rw one at g.keeps;
       calls = rw one at g.calls;
       joins = g.joins;
@@ -105,44 +105,44 @@ desk_takes : (i j : Input) → ((words : List ℕ) → CertificateInput i words 
 desk_takes i j carry t = record { words = t.words; small = t.small; are_bytes = t.are_bytes; most = t.most; taken = carry t.words t.taken }
 
 module _ (i : Input) {b : RuleSet} (same : SameRules i.rule_set b) where
-  one-domain : domain_of i ≡ domain_of (by_rules i b)
-  one-domain = same-domain same i.heap i.values
+  one_domain : domain_of i ≡ domain_of (by_rules i b)
+  one_domain = same_domain same i.heap i.values
 
   grounds : SameGrounds i.rule_set i.heap (domain_of i) b i.heap (domain_of (by_rules i b))
-  grounds = grounds_same same one-domain
+  grounds = grounds_same same one_domain
 
-  whole-both : FitsInput i ↔ FitsInput (by_rules i b)
-  whole-both = (fits-same same, fits-same (exchanged same))
+  whole_both : FitsInput i ↔ FitsInput (by_rules i b)
+  whole_both = (fits_same same, fits_same (exchanged same))
 
-  some-both : SomeFits i ↔ SomeFits (by_rules i b)
-  some-both = (λ (part, f). (part, part_same same f), λ (part, f). (part, part_same (exchanged same) f))
+  some_both : SomeFits i ↔ SomeFits (by_rules i b)
+  some_both = (λ (part, f). (part, part_same same f), λ (part, f). (part, part_same (exchanged same) f))
 
-  certificate-both : {part : ℕ} {words : List ℕ} → CertificatePart i part words ↔ CertificatePart (by_rules i b) part words
-  certificate-both = (certificate-same same one-domain, certificate-same (exchanged same) (sym one-domain))
+  certificate_both : {part : ℕ} {words : List ℕ} → CertificatePart i part words ↔ CertificatePart (by_rules i b) part words
+  certificate_both = (certificate-same same one_domain, certificate-same (exchanged same) (sym one_domain))
 
-  answers-same : {n : ℕ} {Yes Yes' : Type 0} {part : ℕ} {reply : Reply} {table space : List ℕ} → Yes ↔ Yes'
+  answers_same : {n : ℕ} {Yes Yes' : Type 0} {part : ℕ} {reply : Reply} {table space : List ℕ} → Yes ↔ Yes'
       → Answers i n Yes part reply table space → Answers (by_rules i b) n Yes' part reply table space
-  answers-same both (Answers.over m r t s) = Answers.over (more_same grounds m) r t s
-  answers-same both (Answers.fits rounds facts words f y u r s) =
-      Answers.fits rounds facts words (filled-same grounds f) (both.0 y) (trimmed-same same one-domain u) r s
-  answers-same both (Answers.Fits-not rounds facts f y r s) =
-      Answers.Fits-not rounds facts (filled-same grounds f) (λ z. y (both.1 z)) r s
+  answers_same both (Answers.over m r t s) = Answers.over (more_same grounds m) r t s
+  answers_same both (Answers.fits rounds facts words f y u r s) =
+      Answers.fits rounds facts words (filled_same grounds f) (both.0 y) (trimmed-same same one_domain u) r s
+  answers_same both (Answers.fits_not rounds facts f y r s) =
+      Answers.fits_not rounds facts (filled_same grounds f) (λ z. y (both.1 z)) r s
 
-  finds-same : {n : ℕ} {reply : PartReply} {table space : List ℕ} → Finds i n reply table space → Finds (by_rules i b) n reply table space
-  finds-same f = record { answers = answers-same some-both f.answers; fits = λ v. part_same same (f.fits v); none = f.none }
+  finds_same : {n : ℕ} {reply : PartReply} {table space : List ℕ} → Finds i n reply table space → Finds (by_rules i b) n reply table space
+  finds_same f = record { answers = answers_same some_both f.answers; fits = λ v. part_same same (f.fits v); none = f.none }
 
   checks_same : {part : ℕ} {words : List ℕ} {reply : CheckReply} → Checks i part words reply → Checks (by_rules i b) part words reply
-  checks_same (Checks.takes c r) = Checks.takes (certificate-both.0 c) r
-  checks_same (Checks.takes_not c r) = Checks.takes_not (λ d. c (certificate-both.1 d)) r
+  checks_same (Checks.takes c r) = Checks.takes (certificate_both.0 c) r
+  checks_same (Checks.takes_not c r) = Checks.takes_not (λ d. c (certificate_both.1 d)) r
 
   desk_checks_same : {bytes : List ℕ} {number : ℕ} → DeskChecks i bytes number → DeskChecks (by_rules i b) bytes number
-  desk_checks_same (DeskChecks.takes t e) = DeskChecks.takes (desk_takes i (by_rules i b) (λ w. certificate-both.0) t) e
-  desk_checks_same (DeskChecks.takes_not t e) = DeskChecks.takes_not (λ u. t (desk_takes (by_rules i b) i (λ w. certificate-both.1) u)) e
+  desk_checks_same (DeskChecks.takes t e) = DeskChecks.takes (desk_takes i (by_rules i b) (λ w. certificate_both.0) t) e
+  desk_checks_same (DeskChecks.takes_not t e) = DeskChecks.takes_not (λ u. t (desk_takes (by_rules i b) i (λ w. certificate_both.1) u)) e
 
   walks_same : {reply : WalkReply} → Walks i reply → Walks (by_rules i b) reply
-  walks_same (Walks.not_plain n r) = Walks.not_plain (λ plain. n (plain-same (exchanged same) plain)) r
-  walks_same (Walks.fits plain f r) = Walks.fits (plain-same same plain) (whole-both.0 f) r
-  walks_same (Walks.Fits-not plain n r) = Walks.Fits-not (plain-same same plain) (λ f. n (whole-both.1 f)) r
+  walks_same (Walks.not_plain n r) = Walks.not_plain (λ plain. n (plain_same (exchanged same) plain)) r
+  walks_same (Walks.fits plain f r) = Walks.fits (plain_same same plain) (whole_both.0 f) r
+  walks_same (Walks.fits_not plain n r) = Walks.fits_not (plain_same same plain) (λ f. n (whole_both.1 f)) r
 
 -- ---- from bytes
 
@@ -170,49 +170,49 @@ onward_rules a (refused n) q i e = absurd (clash (computed (refused n)) e refl)
 
 module _ (book snapshot question : List ℕ) {a : RuleSet} (reads : read_rule_set book ≡ accepted a)
     (book' : List ℕ) {b : RuleSet} (reads' : read_rule_set book' ≡ accepted b) (same : SameRules a b) where
-  ladder-by : ladder book' snapshot question ≡ read_by b (ladder book snapshot question)
+  ladder_by : ladder book' snapshot question ≡ read_by b (ladder book snapshot question)
   unfolding ladder
-  ladder-by =
+  ladder_by =
       rw (reads, reads')
       (ap (λ (counts : List ℕ). onward b (read_snapshot snapshot) (read_query counts question)) (sym same.arities)
       ∙ onward_by a b (read_snapshot snapshot) (read_query a.arities question))
 
-  ladder-rules : (i : Input) → ladder book snapshot question ≡ accepted i → i.rule_set ≡ a
+  ladder_rules : (i : Input) → ladder book snapshot question ≡ accepted i → i.rule_set ≡ a
   unfolding ladder
-  ladder-rules i e = onward_rules a (read_snapshot snapshot) (read_query a.arities question) i (rw reads at e)
+  ladder_rules i e = onward_rules a (read_snapshot snapshot) (read_query a.arities question) i (rw reads at e)
 
-  served-by : {Lends : Type 0} {Refuses : ℕ → Type 0} {Answered : Input → Type 0}
+  served_by : {Lends : Type 0} {Refuses : ℕ → Type 0} {Answered : Input → Type 0}
       → ((i : Input) → SameRules i.rule_set b → Answered i → Answered (by_rules i b))
       → Served (λ (r : Result Input). ladder book snapshot question ≡ r) Lends Refuses Answered
       → Served (λ (r : Result Input). ladder book' snapshot question ≡ r) Lends Refuses Answered
-  served-by carry (Served.unread n e k) = Served.unread n (ladder-by ∙ ap (read_by b) e) k
-  served-by carry (Served.unlent i e l k) = Served.unlent (by_rules i b) (ladder-by ∙ ap (read_by b) e) l k
-  served-by carry (Served.answered i e l w) = Served.answered (by_rules i b) (ladder-by ∙ ap (read_by b) e) l (carry i (rw (ladder-rules i e) same) w)
+  served_by carry (Served.unread n e k) = Served.unread n (ladder_by ∙ ap (read_by b) e) k
+  served_by carry (Served.unlent i e l k) = Served.unlent (by_rules i b) (ladder_by ∙ ap (read_by b) e) l k
+  served_by carry (Served.answered i e l w) = Served.answered (by_rules i b) (ladder_by ∙ ap (read_by b) e) l (carry i (rw (ladder_rules i e) same) w)
 
-  pub decided-by-value : {table space : List ℕ} {r : Reply} {t x : List ℕ} → Decided book snapshot question table space r t x
+  pub decided_by_value : {table space : List ℕ} {r : Reply} {t x : List ℕ} → Decided book snapshot question table space r t x
       → Decided book' snapshot question table space r t x
-  decided-by-value = served-by (λ i s. answers-same i s (whole-both i s))
+  decided_by_value = served_by (λ i s. answers_same i s (whole_both i s))
 
-  pub found-by-value : {table space : List ℕ} {r : PartReply} {t x : List ℕ} → Found book snapshot question table space r t x
+  pub found_by_value : {table space : List ℕ} {r : PartReply} {t x : List ℕ} → Found book snapshot question table space r t x
       → Found book' snapshot question table space r t x
-  found-by-value = served-by (λ i s. finds-same i s)
+  found_by_value = served_by (λ i s. finds_same i s)
 
-  pub checked-by-value : {words : List ℕ} {r : CheckReply} → Checked book snapshot question words r → Checked book' snapshot question words r
-  checked-by-value = served-by (λ i s. checks_same i s)
+  pub checked_by_value : {words : List ℕ} {r : CheckReply} → Checked book snapshot question words r → Checked book' snapshot question words r
+  checked_by_value = served_by (λ i s. checks_same i s)
 
-  pub checked-part-by-value : {part : ℕ} {words : List ℕ} {r : CheckReply} → CheckedPart book snapshot question part words r
+  pub checked_part_by_value : {part : ℕ} {words : List ℕ} {r : CheckReply} → CheckedPart book snapshot question part words r
       → CheckedPart book' snapshot question part words r
-  checked-part-by-value = served-by (λ i s. checks_same i s)
+  checked_part_by_value = served_by (λ i s. checks_same i s)
 
-  pub walked-by-value : {r : WalkReply} → Walked book snapshot question r → Walked book' snapshot question r
-  walked-by-value = served-by (λ i s. walks_same i s)
+  pub walked_by_value : {r : WalkReply} → Walked book snapshot question r → Walked book' snapshot question r
+  walked_by_value = served_by (λ i s. walks_same i s)
 
-  pub desk-decided-by-value : {n : ℕ} → DeskDecided book snapshot question n → DeskDecided book' snapshot question n
-  desk-decided-by-value d =
-      record { reply = d.reply; table = d.table; space = d.space; decided = decided-by-value d.decided; is_number = d.is_number }
+  pub desk_decided_by_value : {n : ℕ} → DeskDecided book snapshot question n → DeskDecided book' snapshot question n
+  desk_decided_by_value d =
+      record { reply = d.reply; table = d.table; space = d.space; decided = decided_by_value d.decided; is_number = d.is_number }
 
-  pub desk-checked-by-value : {bytes : List ℕ} {n : ℕ} → DeskChecked book snapshot question bytes n → DeskChecked book' snapshot question bytes n
-  desk-checked-by-value = served-by (λ i s. desk_checks_same i s)
+  pub desk_checked_by_value : {bytes : List ℕ} {n : ℕ} → DeskChecked book snapshot question bytes n → DeskChecked book' snapshot question bytes n
+  desk_checked_by_value = served_by (λ i s. desk_checks_same i s)
 
 -- ---- a fixed value listed again
 

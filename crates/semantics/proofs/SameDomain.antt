@@ -53,17 +53,17 @@ most_same a b e [] = refl
 most_same a b e (rule ∷ rules) = ap₂ max (ap (λ (counts : List ℕ). get_or counts rule.head 0 + rule.bound) e) (most_same a b e rules)
 
 module _ {a b : RuleSet} (same : SameRules a b) (heap : Heap) (values : List ℕ) where
-  good-to : Within (good a heap values) (good b heap values)
-  good-to = append_within (λ v. (same.fixed v).0) (λ v m. m)
+  good_to : Within (good a heap values) (good b heap values)
+  good_to = append_within (λ v. (same.fixed v).0) (λ v m. m)
 
-  good-from : Within (good b heap values) (good a heap values)
-  good-from = append_within (λ v. (same.fixed v).1) (λ v m. m)
+  good_from : Within (good b heap values) (good a heap values)
+  good_from = append_within (λ v. (same.fixed v).1) (λ v m. m)
 
-  pub same-domain : domain a heap values ≡ domain b heap values
+  pub same_domain : domain a heap values ≡ domain b heap values
   unfolding domain
-  same-domain =
+  same_domain =
       let n = most_variables b b.rules in
       let kept : List ℕ = spares n (good b heap values) in
-      rw (most_same a b same.arities a.rules, same.rules, spares_same n (good a heap values) (good b heap values) good-to good-from)
+      rw (most_same a b same.arities a.rules, same.rules, spares_same n (good a heap values) (good b heap values) good_to good_from)
       (ascending_same (kept ++ good a heap values) (kept ++ good b heap values)
-      (append_within {xs = kept} (λ v m. m) good-to) (append_within {xs = kept} (λ v m. m) good-from))
+      (append_within {xs = kept} (λ v m. m) good_to) (append_within {xs = kept} (λ v m. m) good_from))

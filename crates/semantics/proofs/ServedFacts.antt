@@ -15,8 +15,8 @@ pub computed : {A : Type 0} (x : Result A) → OneOutcome (λ (r : Result A). x 
 computed x r s e f = sym e ∙ f
 
 module _ {A : Type 0} {Reads : Result A → Type 0} (one : OneOutcome Reads) where
-  pub same-input : {a b : A} → Reads (accepted a) → Reads (accepted b) → a ≡ b
-  same-input {a} {b} h k = let e = one (accepted a) (accepted b) h k in cc
+  pub same_input : {a b : A} → Reads (accepted a) → Reads (accepted b) → a ≡ b
+  same_input {a} {b} h k = let e = one (accepted a) (accepted b) h k in cc
 
   pub same_number : {m n : ℕ} → Reads (refused m) → Reads (refused n) → m ≡ n
   same_number {m} {n} h k = let e = one (refused m) (refused n) h k in cc
@@ -31,35 +31,35 @@ module _ {A : Type 0} {Reads : Result A → Type 0} (one : OneOutcome Reads) whe
     -- ---- the way out is decided
 
     module _ {Refuses : ℕ → Type 0} {Answered : A → Type 0} where
-      pub served-unread : Served Reads Lends Refuses Answered → {n : ℕ} → Reads (refused n) → Refuses n
-      served-unread (Served.unread m h k) g = rw (same_number g h) k
-      served-unread (Served.unlent a h l k) g = absurd (clash h g)
-      served-unread (Served.answered a h l k) g = absurd (clash h g)
+      pub served_unread : Served Reads Lends Refuses Answered → {n : ℕ} → Reads (refused n) → Refuses n
+      served_unread (Served.unread m h k) g = rw (same_number g h) k
+      served_unread (Served.unlent a h l k) g = absurd (clash h g)
+      served_unread (Served.answered a h l k) g = absurd (clash h g)
 
-      pub served-unlent : Served Reads Lends Refuses Answered → {a : A} → Reads (accepted a) → ¬ Lends → Refuses memory_size
-      served-unlent (Served.unread m h k) g n = absurd (clash g h)
-      served-unlent (Served.unlent a h l k) g n = k
-      served-unlent (Served.answered a h l k) g n = absurd (n l)
+      pub served_unlent : Served Reads Lends Refuses Answered → {a : A} → Reads (accepted a) → ¬ Lends → Refuses memory_size
+      served_unlent (Served.unread m h k) g n = absurd (clash g h)
+      served_unlent (Served.unlent a h l k) g n = k
+      served_unlent (Served.answered a h l k) g n = absurd (n l)
 
-      pub served-answered : Served Reads Lends Refuses Answered → {a : A} → Reads (accepted a) → Lends → Answered a
-      served-answered (Served.unread m h k) g l = absurd (clash g h)
-      served-answered (Served.unlent a h n k) g l = absurd (n l)
-      served-answered (Served.answered a h l k) g l' = rw (same-input g h) k
+      pub served_answered : Served Reads Lends Refuses Answered → {a : A} → Reads (accepted a) → Lends → Answered a
+      served_answered (Served.unread m h k) g l = absurd (clash g h)
+      served_answered (Served.unlent a h n k) g l = absurd (n l)
+      served_answered (Served.answered a h l k) g l' = rw (same_input g h) k
 
     -- two servings of one input
-    pub served-both : {R S : ℕ → Type 0} {P Q : A → Type 0} {C : Type 0} → Served Reads Lends R P → Served Reads Lends S Q → ((n : ℕ) → R n → S n → C)
+    pub served_both : {R S : ℕ → Type 0} {P Q : A → Type 0} {C : Type 0} → Served Reads Lends R P → Served Reads Lends S Q → ((n : ℕ) → R n → S n → C)
         → ((a : A) → P a → Q a → C) → C
-    served-both (Served.unread n h k) s refusals answers = refusals n k (served-unread s h)
-    served-both (Served.unlent a h l k) s refusals answers = refusals memory_size k (served-unlent s h l)
-    served-both (Served.answered a h l k) s refusals answers = answers a k (served-answered s h l)
+    served_both (Served.unread n h k) s refusals answers = refusals n k (served_unread s h)
+    served_both (Served.unlent a h l k) s refusals answers = refusals memory_size k (served_unlent s h l)
+    served_both (Served.answered a h l k) s refusals answers = answers a k (served_answered s h l)
 
     -- ---- numbers are exact
 
     -- `number` is the refusal that the reply shows
     module _ {Refuses : ℕ → Type 0} {Answered : A → Type 0} (number : ℕ) (shown : (n : ℕ) → Refuses n → number ≡ n) where
       -- a number of the ladder
-      pub unread-exactly : (n : ℕ) → n ≢ memory_size → ((a : A) → Answered a → number ≢ n) → Served Reads Lends Refuses Answered → (number ≡ n) ↔ Reads (refused n)
-      unread-exactly n other own s = (by s, λ h. shown n (served-unread s h))
+      pub unread_exactly : (n : ℕ) → n ≢ memory_size → ((a : A) → Answered a → number ≢ n) → Served Reads Lends Refuses Answered → (number ≡ n) ↔ Reads (refused n)
+      unread_exactly n other own s = (by s, λ h. shown n (served_unread s h))
         where
           by : Served Reads Lends Refuses Answered → number ≡ n → Reads (refused n)
           by (Served.unread m h k) e = rw (sym (sym (shown m k) ∙ e)) h
@@ -67,9 +67,9 @@ module _ {A : Type 0} {Reads : Result A → Type 0} (one : OneOutcome Reads) whe
           by (Served.answered a h l k) e = absurd (own a k e)
 
       -- the number of the lent memory
-      pub unlent-exactly : ¬ Reads (refused memory_size) → ((a : A) → Answered a → number ≢ memory_size) → Served Reads Lends Refuses Answered
+      pub unlent_exactly : ¬ Reads (refused memory_size) → ((a : A) → Answered a → number ≢ memory_size) → Served Reads Lends Refuses Answered
           → (number ≡ memory_size) ↔ ((a : A) × Reads (accepted a) × ¬ Lends)
-      unlent-exactly never own s = (by s, λ (a, h, n). shown memory_size (served-unlent s h n))
+      unlent_exactly never own s = (by s, λ (a, h, n). shown memory_size (served_unlent s h n))
         where
           by : Served Reads Lends Refuses Answered → number ≡ memory_size → (a : A) × Reads (accepted a) × ¬ Lends
           by (Served.unread m h k) e = absurd (never (rw (sym (sym (shown m k) ∙ e)) h))
@@ -77,9 +77,9 @@ module _ {A : Type 0} {Reads : Result A → Type 0} (one : OneOutcome Reads) whe
           by (Served.answered a h l k) e = absurd (own a k e)
 
       -- a number of the answer, 0 among them, which it gives where `Due` is true of what was read
-      pub answered-exactly : (n : ℕ) {Due : A → Type 0} → n ≢ memory_size → ¬ Reads (refused n) → ((a : A) → Answered a → (number ≡ n) ↔ Due a) → Served Reads Lends Refuses Answered
+      pub answered_exactly : (n : ℕ) {Due : A → Type 0} → n ≢ memory_size → ¬ Reads (refused n) → ((a : A) → Answered a → (number ≡ n) ↔ Due a) → Served Reads Lends Refuses Answered
           → (number ≡ n) ↔ ((a : A) × Reads (accepted a) × Lends × Due a)
-      answered-exactly n {Due} other never own s = (by s, λ (a, h, l, d). (own a (served-answered s h l)).1 d)
+      answered_exactly n {Due} other never own s = (by s, λ (a, h, l, d). (own a (served_answered s h l)).1 d)
         where
           by : Served Reads Lends Refuses Answered → number ≡ n → (a : A) × Reads (accepted a) × Lends × Due a
           by (Served.unread m h k) e = absurd (never (rw (sym (sym (shown m k) ∙ e)) h))

@@ -6,7 +6,7 @@ use Prim.Native.Nat.{ℕ, ◌+◌, ◌^◌, ◌≤◌, ◌<◌}
 use native.Mathlib.{Omega.arith, Decide.ℕ_discrete, Decide.dec_lt, Nat.add-zero, Nat.div-eq_of_lt, Nat.lt_of_lt_of_le}
 use lib.{Bits.bit_and, Pow.pow_mono}
 use Rattle.semantics.specs.{Lists.◌among◌, Lists.Distinct, Heap.set_of, Heap.Shares, Heap.Disjoint, Heap.Joins}
-use Rattle.semantics.proofs.Bits.{bit, bit_zero, bit_few, bit_at, bit_and, some_bit, bit_in, bit_out, dec_in}
+use Rattle.semantics.proofs.Bits.{bit, bit_zero, bit_few, bit_at, bit_and_lem, some_bit, bit_in, bit_out, dec_in}
 
 shared : (a b i : ℕ) → bit a i ≡ 1 → bit b i ≡ 1 → Shares a b
 shared a b i p q = record { place = i; left = bit_at a i ∙ p; right = bit_at b i ∙ q }
@@ -34,7 +34,7 @@ disjoint_none a s = omega (arith, shared_right s, bit_zero s.place)
 
 pub shares_and : (a b : ℕ) → Shares a b → bit_and a b ≢ 0
 shares_and a b s e =
-    omega (arith, shared_left s, shared_right s, bit_and a b s.place, ap (λ (n : ℕ). bit n s.place) e, bit_zero s.place)
+    omega (arith, shared_left s, shared_right s, bit_and_lem a b s.place, ap (λ (n : ℕ). bit n s.place) e, bit_zero s.place)
 
 pub and_shares : (a b : ℕ) → bit_and a b ≢ 0 → Shares a b
 and_shares a b z =
@@ -43,7 +43,7 @@ and_shares a b z =
     shared a b i p q
   where
     both : (i : ℕ) → bit (bit_and a b) i ≡ 1 → (bit a i ≡ 1) × (bit b i ≡ 1)
-    both i e = let m = bit_and a b i in (omega (arith, e, m, bit_few a i, bit_few b i), omega (arith, e, m, bit_few a i, bit_few b i))
+    both i e = let m = bit_and_lem a b i in (omega (arith, e, m, bit_few a i, bit_few b i), omega (arith, e, m, bit_few a i, bit_few b i))
 
 pub and_disjoint : (a b : ℕ) → bit_and a b ≡ 0 → Disjoint a b
 and_disjoint a b e s = shares_and a b s e

@@ -82,9 +82,9 @@ module _ (top : ℕ) where
     pub fixes : (x : ℕ) → x < top → image x ≡ x
     pub is : (v : ℕ) → σ v ≡ image (entries v)
 
-  value-image : (σ entries : ℕ → ℕ) (f : Follows σ entries) (t : Term) → Below top t → value σ t ≡ f.image (value entries t)
-  value-image σ entries f (var v) h = f.is v
-  value-image σ entries f (fixed x) h = sym (f.fixes x h)
+  value_image : (σ entries : ℕ → ℕ) (f : Follows σ entries) (t : Term) → Below top t → value σ t ≡ f.image (value entries t)
+  value_image σ entries f (var v) h = f.is v
+  value_image σ entries f (fixed x) h = sym (f.fixes x h)
 
   -- ---- an entry replaced
 
@@ -155,10 +155,10 @@ module _ (top : ℕ) where
 
     module _ (is : p.kind ≡ equal) where
       gives : (σ : ℕ → ℕ) (f : Follows σ entries) → f.image (value entries p.left) ≡ f.image (value entries p.right) → Equal σ p
-      gives σ f e k = value-image σ entries f p.left small.0 ∙ e ∙ sym (value-image σ entries f p.right small.1)
+      gives σ f e k = value_image σ entries f p.left small.0 ∙ e ∙ sym (value_image σ entries f p.right small.1)
 
       asks : (σ : ℕ → ℕ) (f : Follows σ entries) → Equal σ p → f.image (value entries p.left) ≡ f.image (value entries p.right)
-      asks σ f e = sym (value-image σ entries f p.left small.0) ∙ e is ∙ value-image σ entries f p.right small.1
+      asks σ f e = sym (value_image σ entries f p.left small.0) ∙ e is ∙ value_image σ entries f p.right small.1
 
       fails : ((σ : ℕ → ℕ) (f : Follows σ entries) → f.image (value entries p.left) ≢ f.image (value entries p.right)) → Never entries (p ∷ ps)
       fails n σ f e = n σ f (asks σ f (e p (Memᴰ.head refl)))
@@ -206,27 +206,27 @@ solved_decided pures = step (merge top pures (top_above pures top (omega arith))
     top : ℕ
     top = top_of pures
 
-    apart-decided : (σ : ℕ → ℕ) (p : Pure) → Dec (Apart σ p)
-    apart-decided σ p = by p.kind refl (ℕ_discrete (value σ p.left) (value σ p.right))
+    apart_decided : (σ : ℕ → ℕ) (p : Pure) → Dec (Apart σ p)
+    apart_decided σ p = by p.kind refl (ℕ_discrete (value σ p.left) (value σ p.right))
       where
         by : (k : Kind) → p.kind ≡ k → Dec (value σ p.left ≡ value σ p.right) → Dec (Apart σ p)
         by equal e d = yes (λ u. absurd (kinds-differ (sym e ∙ u)))
         by unequal e (yes q) = no (λ a. a e q)
         by unequal e (no n) = yes (λ u. n)
 
-    apart-back : (σ entries : ℕ → ℕ) → Follows top σ entries → (p : Pure) → p among pures → Apart σ p → Apart entries p
-    apart-back σ entries f p m a u e =
+    apart_back : (σ entries : ℕ → ℕ) → Follows top σ entries → (p : Pure) → p among pures → Apart σ p → Apart entries p
+    apart_back σ entries f p m a u e =
         let (l, r) = top_above pures top (omega arith) p m in
-        a u (value-image top σ entries f p.left l ∙ ap f.image e ∙ sym (value-image top σ entries f p.right r))
+        a u (value_image top σ entries f p.left l ∙ ap f.image e ∙ sym (value_image top σ entries f p.right r))
 
     answer : (w : Merges top (λ v. top + v) pures) → Dec ((p : Pure) → p among pures → Apart w.after p) → Dec (Solved pures)
     answer w (yes a) =
         let (f, e) = w.out w.after (record { image = λ x. x; fixes = λ x h. refl; is = λ v. refl }) in
         yes (record { σ = w.after; meets = λ p m. met_both w.after p (e p m) (a p m) })
     answer w (no n) =
-        no (λ s. n (λ p m. apart-back s.σ w.after
+        no (λ s. n (λ p m. apart_back s.σ w.after
         (w.back s.σ (fresh_follows top s.σ) (λ q k. met_equal s.σ q (s.meets q k))) p m (met_apart s.σ p (s.meets p m))))
 
     step : Merges top (λ v. top + v) pures ⊎ Never top (λ v. top + v) pures → Dec (Solved pures)
-    step (inl w) = answer w (all_decided (Apart w.after) pures (λ p m. apart-decided w.after p))
+    step (inl w) = answer w (all_decided (Apart w.after) pures (λ p m. apart_decided w.after p))
     step (inr n) = no (λ s. n s.σ (fresh_follows top s.σ) (λ q k. met_equal s.σ q (s.meets q k)))

@@ -7,7 +7,7 @@ use lib.{ListN.length, ListN.get_or}
 use Rattle.semantics.specs.RuleSet.{Pure, PointsTo, Rule, RuleSet, arity}
 use Rattle.semantics.specs.{Lists.◌among◌, Heap.Record, Heap.Heap, Heap.Ordered, Heap.blank, Heap.Shares, Heap.Disjoint, Tree.Meets, Tree.asked, Tree.Takes, Plain.Plain}
 use Rattle.semantics.specs.{Found.Known, Found.Agrees, Found.AllFound, WalkOutcome.Marks, WalkOutcome.TakesFreely, WalkOutcome.Chosen, WalkOutcome.Choosable}
-use Rattle.semantics.proofs.{Addresses.address_once, FoundFacts.none_open, FoundFacts.found-values}
+use Rattle.semantics.proofs.{Addresses.address_once, FoundFacts.none_open, FoundFacts.found_values}
 
 -- ---- one points_to atom before others
 
@@ -29,13 +29,13 @@ module _ {heap : Heap} {σ : List ℕ} {atom : PointsTo} {atoms : List PointsTo}
       record { index = i; below = h; is = e; free = f; others = record { indices = is; takes = rest; marks = m } }
 
   -- no record as it asks for is free
-  pub free-stop : ((i : ℕ) → i < length heap → get_or heap i blank ≡ asked σ atom → Shares (2 ^ i) mask) → ¬ TakesFreely heap σ (atom ∷ atoms) mask after
-  free-stop taken t = let f = first_of t.takes t.marks in f.free (taken f.index f.below f.is)
+  pub free_stop : ((i : ℕ) → i < length heap → get_or heap i blank ≡ asked σ atom → Shares (2 ^ i) mask) → ¬ TakesFreely heap σ (atom ∷ atoms) mask after
+  free_stop taken t = let f = first_of t.takes t.marks in f.free (taken f.index f.below f.is)
 
   -- One is, and there is no other at its address.
-  pub free-next : Ordered heap → (i : ℕ) → i < length heap → get_or heap i blank ≡ asked σ atom → Disjoint (2 ^ i) mask
+  pub free_next : Ordered heap → (i : ℕ) → i < length heap → get_or heap i blank ≡ asked σ atom → Disjoint (2 ^ i) mask
       → TakesFreely heap σ (atom ∷ atoms) mask after ↔ TakesFreely heap σ atoms (2 ^ i + mask) after
-  free-next ordered i below is free = (
+  free_next ordered i below is free = (
     λ t. let f = first_of t.takes t.marks in
         let same : f.index ≡ i = address_once ordered f.index i f.below below (ap (λ (r : Record). r.address) (f.is ∙ sym is)) in
         subst (λ (k : ℕ). TakesFreely heap σ atoms (2 ^ k + mask) after) same f.others,
@@ -59,8 +59,8 @@ module _ {rule_set : RuleSet} {heap : Heap} {mask p : ℕ} {arguments : List ℕ
   }
 
   -- it is of another predicate
-  pub other-head : p ≢ rule.head → ¬ Choosable rule_set heap mask p arguments rule
-  other-head n c = n c.heads
+  pub other_head : p ≢ rule.head → ¬ Choosable rule_set heap mask p arguments rule
+  other_head n c = n c.heads
 
   module _ (plain : Plain rule_set) where
     module _ {env : Known} (found : AllFound rule_set heap rule arguments env) where
@@ -71,10 +71,10 @@ module _ {rule_set : RuleSet} {heap : Heap} {mask p : ℕ} {arguments : List ℕ
       -- with the values found, a pure condition is not met, or the points_to atoms take no free records
       module _ (σ : List ℕ) (long : length σ ≡ length env) (agrees : Agrees env σ) where
         values_of : (c : Choosable rule_set heap mask p arguments rule) → arguments ++ c.bound ≡ σ
-        values_of c = sym (found-values found c.applies (plain.all_fixed rule c.applies.listed) σ long agrees)
+        values_of c = sym (found_values found c.applies (plain.all_fixed rule c.applies.listed) σ long agrees)
 
-        pub not-met : ¬ ((pure : Pure) → pure among rule.pures → Meets σ pure) → ¬ Choosable rule_set heap mask p arguments rule
-        not-met n c = n (λ pure m. subst (λ (τ : List ℕ). Meets τ pure) (values_of c) (c.applies.meets pure m))
+        pub not_met : ¬ ((pure : Pure) → pure among rule.pures → Meets σ pure) → ¬ Choosable rule_set heap mask p arguments rule
+        not_met n c = n (λ pure m. subst (λ (τ : List ℕ). Meets τ pure) (values_of c) (c.applies.meets pure m))
 
         pub not_free : ((after : ℕ) → ¬ TakesFreely heap σ rule.points_to mask after) → ¬ Choosable rule_set heap mask p arguments rule
         not_free n c =

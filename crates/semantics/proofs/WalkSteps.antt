@@ -8,7 +8,7 @@ use native.Mathlib.Omega.{arith}
 use lib.ListN.{length, length-append}
 use Rattle.semantics.specs.{RuleSet.Call, RuleSet.Rule, RuleSet.RuleSet, Heap.Heap, Heap.Ordered, Tree.values_of, Tree.Tree, Tree.Forest, Plain.Plain}
 use Rattle.semantics.specs.WalkOutcome.{Marks, WalkOutcome, FittingCalls, CallsOutcome, Chosen, Choosable}
-use Rattle.semantics.proofs.{Addresses.takes_length, Precision.one-step, Precision.tree-same}
+use Rattle.semantics.proofs.{Addresses.takes_length, Precision.one_step, Precision.tree_same}
 use Rattle.semantics.proofs.Marking.{marks_append, marks_split, marks_same}
 
 some_long : {A : Type 0} (xs : List A) → xs ≢ [] → 1 ≤ length xs
@@ -17,13 +17,13 @@ some_long (x ∷ xs) h = omega arith
 
 module _ (rule_set : RuleSet) (heap : Heap) where
   -- without calls the mask stays
-  pub calls-end : {fuel : ℕ} {σ : List ℕ} {mask : ℕ} → CallsOutcome rule_set heap fuel σ [] mask (some mask)
-  calls-end = CallsOutcome.found (record { taken = []; forest = Forest.none; marks = Marks.none })
+  pub calls_end : {fuel : ℕ} {σ : List ℕ} {mask : ℕ} → CallsOutcome rule_set heap fuel σ [] mask (some mask)
+  calls_end = CallsOutcome.found (record { taken = []; forest = Forest.none; marks = Marks.none })
 
   -- the first call has no tree
-  pub calls-stop : {fuel : ℕ} {σ : List ℕ} {call : Call} {calls : List Call} {mask : ℕ}
+  pub calls_stop : {fuel : ℕ} {σ : List ℕ} {call : Call} {calls : List Call} {mask : ℕ}
       → WalkOutcome rule_set heap fuel call.predicate (values_of σ call.arguments) mask none → CallsOutcome rule_set heap fuel σ (call ∷ calls) mask none
-  calls-stop {fuel} {σ} {call} {calls} {mask} (WalkOutcome.nothing n) = CallsOutcome.nothing (λ plain f. by plain f.forest f.marks f.short)
+  calls_stop {fuel} {σ} {call} {calls} {mask} (WalkOutcome.nothing n) = CallsOutcome.nothing (λ plain f. by plain f.forest f.marks f.short)
     where
       by : Plain rule_set → {taken : List ℕ} {after : ℕ} → Forest rule_set heap σ (call ∷ calls) taken → Marks mask taken after → (call ∷ calls ≢ [] → length taken < fuel) → ⊥
       by plain (Forest.next here rest tree forest t) m short =
@@ -33,31 +33,31 @@ module _ (rule_set : RuleSet) (heap : Heap) where
 
   module _ (ordered : Ordered heap) where
     -- a tree for the first call, whose mask the other calls begin with
-    pub calls-next : {fuel : ℕ} {σ : List ℕ} {call : Call} {calls : List Call} {mask middle : ℕ} {o : Option ℕ}
+    pub calls_next : {fuel : ℕ} {σ : List ℕ} {call : Call} {calls : List Call} {mask middle : ℕ} {o : Option ℕ}
         → WalkOutcome rule_set heap fuel call.predicate (values_of σ call.arguments) mask (some middle) → CallsOutcome rule_set heap fuel σ calls middle o
         → CallsOutcome rule_set heap fuel σ (call ∷ calls) mask o
-    calls-next (WalkOutcome.found w) (CallsOutcome.found ws) =
+    calls_next (WalkOutcome.found w) (CallsOutcome.found ws) =
         CallsOutcome.found (record { taken = w.taken ++ ws.taken; forest = Forest.next w.taken ws.taken w.tree ws.forest refl; marks = marks_append w.marks ws.marks })
-    calls-next {fuel} {σ} {call} {calls} {mask} {middle} (WalkOutcome.found w) (CallsOutcome.nothing n) = CallsOutcome.nothing (λ plain f. by plain f.forest f.marks f.short)
+    calls_next {fuel} {σ} {call} {calls} {mask} {middle} (WalkOutcome.found w) (CallsOutcome.nothing n) = CallsOutcome.nothing (λ plain f. by plain f.forest f.marks f.short)
       where
         by : Plain rule_set → {taken : List ℕ} {after : ℕ} → Forest rule_set heap σ (call ∷ calls) taken → Marks mask taken after → (call ∷ calls ≢ [] → length taken < fuel) → ⊥
         by plain {after = after} (Forest.next here rest tree forest t) m short =
             let (m', m₁, m₂) = marks_split here (rw t at m) in
-            let same : here ≡ w.taken = tree-same rule_set heap ordered plain tree w.tree in
+            let same : here ≡ w.taken = tree_same rule_set heap ordered plain tree w.tree in
             let one : m' ≡ middle = marks_same same m₁ w.marks in
             let h = short (λ e. cons≢nil e) in
             n plain (record { taken = rest; after = after; forest = forest; marks = rw one at m₂; short = λ z. omega (arith, length-append here rest, ap length t) })
 
     -- a rule with free records, whose mask its calls begin with
-    pub node-next : {fuel p mask after : ℕ} {arguments σ : List ℕ} {rule : Rule} {o : Option ℕ} → Chosen rule_set heap mask p arguments rule σ after
+    pub node_next : {fuel p mask after : ℕ} {arguments σ : List ℕ} {rule : Rule} {o : Option ℕ} → Chosen rule_set heap mask p arguments rule σ after
         → CallsOutcome rule_set heap fuel σ rule.calls after o → WalkOutcome rule_set heap (suc fuel) p arguments mask o
-    node-next {fuel} {p} {mask} {after} {arguments} {σ} {rule} {o} c w = by (subst (λ (τ : List ℕ). CallsOutcome rule_set heap fuel τ rule.calls after o) c.are_values w)
+    node_next {fuel} {p} {mask} {after} {arguments} {σ} {rule} {o} c w = by (subst (λ (τ : List ℕ). CallsOutcome rule_set heap fuel τ rule.calls after o) c.are_values w)
       where
         only : Plain rule_set → ¬ FittingCalls rule_set heap fuel (arguments ++ c.bound) rule.calls after → {taken : List ℕ} {last : ℕ}
             → Tree rule_set heap p arguments taken → Marks mask taken last → length taken < suc fuel → ⊥
         only plain n {last = last} (Tree.node other b is below e a forest t) m short =
             let (m', m₁, m₂) = marks_split is (rw t at m) in
-            let s = one-step rule_set heap ordered plain (sym e ∙ c.heads) a c.applies in
+            let s = one_step rule_set heap ordered plain (sym e ∙ c.heads) a c.applies in
             let one : m' ≡ after = marks_same s.same_indices m₁ c.marks in
             n (record {
               taken = below;
@@ -84,9 +84,9 @@ module _ (rule_set : RuleSet) (heap : Heap) where
         by (CallsOutcome.nothing n) = WalkOutcome.nothing (λ plain f. only plain (n plain) f.tree f.marks f.short)
 
   -- every rule is ruled out
-  pub node-stop : {fuel p mask : ℕ} {arguments : List ℕ} → (Plain rule_set → (rule : Rule) → ¬ Choosable rule_set heap mask p arguments rule)
+  pub node_stop : {fuel p mask : ℕ} {arguments : List ℕ} → (Plain rule_set → (rule : Rule) → ¬ Choosable rule_set heap mask p arguments rule)
       → WalkOutcome rule_set heap fuel p arguments mask none
-  node-stop {fuel} {p} {mask} {arguments} n = WalkOutcome.nothing (λ plain f. by plain f.tree f.marks)
+  node_stop {fuel} {p} {mask} {arguments} n = WalkOutcome.nothing (λ plain f. by plain f.tree f.marks)
     where
       by : Plain rule_set → {taken : List ℕ} {after : ℕ} → Tree rule_set heap p arguments taken → Marks mask taken after → ⊥
       by plain (Tree.node rule b is below e a forest t) m =
@@ -94,5 +94,5 @@ module _ (rule_set : RuleSet) (heap : Heap) where
           n plain rule (record { bound = b; indices = is; after = middle; heads = e; applies = a; marks = m₁ })
 
   -- without fuel there is no tree, since none takes fewer than no records
-  pub fuel-stop : {p mask : ℕ} {arguments : List ℕ} → WalkOutcome rule_set heap 0 p arguments mask none
-  fuel-stop = WalkOutcome.nothing (λ plain f. absurd (omega (arith, f.short)))
+  pub fuel_stop : {p mask : ℕ} {arguments : List ℕ} → WalkOutcome rule_set heap 0 p arguments mask none
+  fuel_stop = WalkOutcome.nothing (λ plain f. absurd (omega (arith, f.short)))

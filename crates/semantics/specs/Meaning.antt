@@ -7,7 +7,7 @@ use Rattle.semantics.specs.{RuleSet.Call, RuleSet.Rule, RuleSet.RuleSet, Heap.He
 
 mutual
   pub data Means (rule_set : RuleSet) (heap : Heap) : ℕ → List ℕ → ℕ → Type 0 where
-    by-rule : {predicate : ℕ} {arguments : List ℕ} {part : ℕ} (rule : Rule) (bound indices parts : List ℕ)
+    by_rule : {predicate : ℕ} {arguments : List ℕ} {part : ℕ} (rule : Rule) (bound indices parts : List ℕ)
         → predicate ≡ rule.head
         → Applies rule_set heap rule arguments bound indices
         → MeansCalls rule_set heap (arguments ++ bound) rule.calls parts

@@ -13,7 +13,7 @@ use Rattle.reader.specs.{Cursor.Yields, Cursor.stopped, Layout.value_layout, Lay
 use Rattle.snapshot.specs.HeapLayout.{address_layout, size_layout, record_above, record_layout, records_layout, AfterWord}
 use Rattle.reader.specs.declared.Cursor.{Cursor}
 use Rattle.reader.proofs.Chain.{assoc, chain, done, turn, passed, failed}
-use Rattle.reader.proofs.Counting.{threaded, left, left_snoc, threaded-none, threaded-more, ranged_then, counted_read}
+use Rattle.reader.proofs.Counting.{threaded, left, left_snoc, threaded_none, threaded_more, ranged_then, counted_read}
 use Rattle.reader.proofs.{Keep.kept_none, Keep.kept_both, Section.ones, Section.entries_same, Section.Local, Section.row_more}
 
 -- an address above the one before, one that is not, and the end mark
@@ -83,7 +83,7 @@ last_more b k =
 pub records_none : (bytes : List ℕ) (c : Cursor) (b : List ℕ) → Fills (records_layout 0) 1 bytes c b b c
 unfolding tabulate
 records_none bytes c b = record {
-  reads = turn (records-threaded 0 0) (threaded-none record_above address_of bytes c 0);
+  reads = turn (records-threaded 0 0) (threaded_none record_above address_of bytes c 0);
   sized = λ k l. absurd (omega arith);
   kept = kept_none _ _ b;
 }
@@ -94,7 +94,7 @@ records_more {bytes} {c₀} {c} {c'} {b₀} {b} {b'} low k e h here =
     row_more (record_layout 0) (record_local 0) (records (k + 1) 0) 1 k (omega arith) h here.sized here.kept
     (rw (add-one k)
     (turn (records-threaded (suc k) 0)
-    (threaded-more record_above address_of k 0 (records_in b k) (record_in b' (1 + 6 * k)) (turn (sym (records-threaded k 0)) h.reads) (rw (← e) here.reads))))
+    (threaded_more record_above address_of k 0 (records_in b k) (record_in b' (1 + 6 * k)) (turn (sym (records-threaded k 0)) h.reads) (rw (← e) here.reads))))
 
 -- the count and the records make the heap
 pub heap_fills : {bytes : List ℕ} {c c₁ c₂ : Cursor} {b b₁ b₂ : List ℕ} → Fills (size_layout 16) 0 bytes c b b₁ c₁

@@ -24,8 +24,8 @@ unfolding opens
 opens-zeros = refl
 
 module _ {f : ℕ → ℕ} {values : List ℕ} {n : ℕ} (w : Written n f values) where
-  pub written-more : n < 8 → {x : ℕ} → x ≡ f n → x < open_entry → Written (n + 1) f (set values n x)
-  written-more few {x} e small = record {
+  pub written_more : n < 8 → {x : ℕ} → x ≡ f n → x < open_entry → Written (n + 1) f (set values n x)
+  written_more few {x} e small = record {
     eight = length-set values n x ∙ w.eight;
     at = λ j h. by_cases (ℕ_discrete j n) (λ q. rw q (get_or-set_same values n x 0 (omega (arith, w.eight)) ∙ e))
         (λ q. get_or-set_other values n j x 0 q ∙ w.at j (omega arith));
@@ -33,10 +33,10 @@ module _ {f : ℕ → ℕ} {values : List ℕ} {n : ℕ} (w : Written n f values
         (λ q. omega (arith, get_or-set_other values n v x 0 q, w.known v));
   }
 
-  pub written-take : n ≤ 8 → take n values ≡ tabulate n f
-  written-take few =
+  pub written_take : n ≤ 8 → take n values ≡ tabulate n f
+  written_take few =
       ext_get_or 0 (take n values) (tabulate n f) (length-take-le n values (omega (arith, w.eight)) ∙ sym (tabulate-length n f))
       (λ j h. let l : j < n = omega (arith, length-take-le n values (omega (arith, w.eight))) in get_or-take n values j 0 l ∙ w.at j l ∙ sym (tabulate_at n f 0 j l))
 
-  pub written-counted : Counted values 0
-  written-counted = record { eight = w.eight; is = omega (arith, opens-zeros, opens_kept (zeros 8) values (sym w.eight) (λ v h. w.known v)) }
+  pub written_counted : Counted values 0
+  written_counted = record { eight = w.eight; is = omega (arith, opens-zeros, opens_kept (zeros 8) values (sym w.eight) (λ v h. w.known v)) }

@@ -4,7 +4,7 @@ use Prim.Native.Nat.{ℕ, suc, ◌+◌, ◌-◌, ◌≤◌, ◌<◌}
 use native.Mathlib.Omega.{arith}
 use lib.ListN.{drop}
 use Rattle.semantics.specs.{RuleSet.Rule, Tree.values_of, WalkOutcome.WalkOutcome, WalkOutcome.CallsOutcome}
-use Rattle.semantics.proofs.{WalkSteps.node-next}
+use Rattle.semantics.proofs.{WalkSteps.node_next}
 use Rattle.words.proofs.Tabulate.{tabulate-drop, tabulate_past}
 use Rattle.block.specs.Layout.{rule_as, call_as, rule_set_read, fixed_in, heap_in, call_count, call_place, call_predicate}
 use Rattle.walk.specs.declared.Choice.{Choice}
@@ -34,14 +34,14 @@ pub chosen_outcome : {given rules heap : List ℕ} → Readable given rules heap
 chosen_outcome {given} {rules} {heap} readable {predicate = predicate} {arguments = arguments} {mask = mask} {fuel = fuel} some c {o = o} calls =
     let e : suc (fuel - 1) ≡ fuel = omega arith in
     subst (λ (n : ℕ). WalkOutcome (rule_set_read given rules) (heap_in heap) n predicate (arguments_in rules predicate arguments) mask o) e
-    (node-next (rule_set_read given rules) (heap_in heap) readable.heap_formed.ordered c.chosen calls)
+    (node_next (rule_set_read given rules) (heap_in heap) readable.heap_formed.ordered c.chosen calls)
 
 -- a choice's answer
 module _ {given rules heap : List ℕ} {predicate : ℕ} {arguments : List ℕ} {mask : ℕ} {values : List ℕ} {r : Choice} where
-  pub choice-made : Chooses given rules heap predicate arguments mask values r → r.ok ≡ true → ChosenAt given rules r.rule heap predicate arguments mask values r.mask
-  choice-made (Chooses.chosen e c) t = c
-  choice-made (Chooses.nothing e n) t = absurd (false≢true (sym e ∙ t))
+  pub choice_made : Chooses given rules heap predicate arguments mask values r → r.ok ≡ true → ChosenAt given rules r.rule heap predicate arguments mask values r.mask
+  choice_made (Chooses.chosen e c) t = c
+  choice_made (Chooses.nothing e n) t = absurd (false≢true (sym e ∙ t))
 
-  pub choice-none : Chooses given rules heap predicate arguments mask values r → r.ok ≡ false → (rule : Rule) → NotChosen given rules heap predicate arguments mask rule
-  choice-none (Chooses.chosen e c) t = absurd (false≢true (sym t ∙ e))
-  choice-none (Chooses.nothing e n) t = n
+  pub choice_none : Chooses given rules heap predicate arguments mask values r → r.ok ≡ false → (rule : Rule) → NotChosen given rules heap predicate arguments mask rule
+  choice_none (Chooses.chosen e c) t = absurd (false≢true (sym t ∙ e))
+  choice_none (Chooses.nothing e n) t = n

@@ -4,10 +4,10 @@ use Prim.Native.Nat.{ℕ, ◌+◌, ◌≤◌, ◌<◌}
 use native.Mathlib.Omega.{arith}
 use lib.{ListN.length, ListN.get_or, ListN.drop}
 use Rattle.semantics.specs.{Heap.Record, Heap.Heap, Heap.WellFormedHeap, Heap.Ordered, Heap.blank, RuleSet.PointsTo, Tree.asked}
-use Rattle.semantics.proofs.{Addresses.address_once, WalkLoops.AtomsLeft, WalkLoops.atoms-stop, WalkLoops.atoms-next}
+use Rattle.semantics.proofs.{Addresses.address_once, WalkLoops.AtomsLeft, WalkLoops.atoms_stop, WalkLoops.atoms_next}
 use Rattle.words.proofs.Tabulate.{tabulate-drop, tabulate_past}
 use Rattle.block.specs.Layout.{atom_as, rule_as, heap_in, atom_count, atom_place, atom_address, record_count, record_address}
-use Rattle.block.proofs.HeapInBlock.{heap-count, record_is}
+use Rattle.block.proofs.HeapInBlock.{heap_count, record_is}
 use Rattle.finding.specs.Records.{RecordAt}
 use Rattle.finding.proofs.Addresses.{is_nowhere}
 use Rattle.semantics.specs.WalkOutcome.{TakesFreely}
@@ -18,20 +18,20 @@ module _ (value : ℕ → ℕ) (rules : List ℕ) (rule g : ℕ) (σ heap : List
   abbrev pub Wanted : ℕ → Type 0
   Wanted k = get_or (heap_in heap) k blank ≡ asked σ (atom_as value rules (atom_place rule g))
 
-  wanted-address : (k : ℕ) → k < length (heap_in heap) → Wanted k → record_address heap k ≡ get_or σ (atom_address rules rule g) 0
-  wanted-address k h e = ap (λ (r : Record). r.address) (record_is heap k (omega (arith, heap-count heap)) ∙ e)
+  wanted_address : (k : ℕ) → k < length (heap_in heap) → Wanted k → record_address heap k ≡ get_or σ (atom_address rules rule g) 0
+  wanted_address k h e = ap (λ (r : Record). r.address) (record_is heap k (omega (arith, heap_count heap)) ∙ e)
 
   -- there is none where no record has the address
   pub nowhere : {address r : ℕ} → address ≡ get_or σ (atom_address rules rule g) 0 → RecordAt heap address r → record_count heap ≤ r
       → (k : ℕ) → k < length (heap_in heap) → Wanted k → ⊥
-  nowhere is at l k low w = is_nowhere at l k (omega (arith, heap-count heap)) (wanted-address k low w ∙ sym is)
+  nowhere is at l k low w = is_nowhere at l k (omega (arith, heap_count heap)) (wanted_address k low w ∙ sym is)
 
   -- it is the one at the address
   pub only : WellFormedHeap (heap_in heap) → (i : ℕ) → i < record_count heap → record_address heap i ≡ get_or σ (atom_address rules rule g) 0
       → (k : ℕ) → k < length (heap_in heap) → Wanted k → k ≡ i
   only formed i h e k low w =
-      address_once formed.ordered k i low (omega (arith, heap-count heap))
-      (ap (λ (r : Record). r.address) (sym (record_is heap k (omega (arith, heap-count heap)))) ∙ wanted-address k low w ∙ sym e ∙ ap (λ (r : Record). r.address) (record_is heap i h))
+      address_once formed.ordered k i low (omega (arith, heap_count heap))
+      (ap (λ (r : Record). r.address) (sym (record_is heap k (omega (arith, heap_count heap)))) ∙ wanted_address k low w ∙ sym e ∙ ap (λ (r : Record). r.address) (record_is heap i h))
 
 -- ---- one atom after the other
 
@@ -45,9 +45,9 @@ atoms_past value rules rule g h = tabulate_past (atom_count rules rule) (λ i. a
 module _ {heap : Heap} {σ : List ℕ} {atoms : List PointsTo} {mask g now : ℕ} (left : AtomsLeft heap σ atoms mask g now) {atom : PointsTo}
     (here : drop g atoms ≡ atom ∷ drop (g + 1) atoms) where
   pub taken_next : Ordered heap → {after : ℕ} → TakesFree heap σ atom now true after → AtomsLeft heap σ atoms mask (g + 1) after
-  taken_next ordered (TakesFree.taken ok i h e free q) = rw q (atoms-next left here ordered i h e free)
+  taken_next ordered (TakesFree.taken ok i h e free q) = rw q (atoms_next left here ordered i h e free)
   taken_next ordered (TakesFree.stuck ok s) = absurd (false≢true (sym ok))
 
-  pub stuck-stop : {after : ℕ} → TakesFree heap σ atom now false after → (later : ℕ) → ¬ TakesFreely heap σ atoms mask later
-  stuck-stop (TakesFree.taken ok i h e free q) = absurd (false≢true ok)
-  stuck-stop (TakesFree.stuck ok s) = atoms-stop left here s
+  pub stuck_stop : {after : ℕ} → TakesFree heap σ atom now false after → (later : ℕ) → ¬ TakesFreely heap σ atoms mask later
+  stuck_stop (TakesFree.taken ok i h e free q) = absurd (false≢true ok)
+  stuck_stop (TakesFree.stuck ok s) = atoms_stop left here s

@@ -3,7 +3,7 @@ use borrow.Author.Rules.{rules}
 use Prim.Native.Nat.{◌+◌, ◌-◌, ◌≤◌}
 use mathlib.Core.Path.{◌≡◌, refl}
 use native.Mathlib.Omega.{arith}
-use Rattle.block.proofs.Exchange.{Traded, traded_none, traded-more, traded_all}
+use Rattle.block.proofs.Exchange.{Traded, traded_none, traded_more, traded_all}
 use Rattle.block.proofs.exchange_calls.Statement.{statement}
 use Rattle.block.proofs.exchange_calls.Tie as tie
 
@@ -20,7 +20,7 @@ loop-again : tie.Need-loop-preserved invariant-loop decreases-loop
 loop-again c =
     let l = c.before.before.before.loop in
     let a = c.before.before.before.before in
-    (omega arith, traded-more a.args.rules.now l.rules (a.args.rule + 56 + 5) l.j _ _ c.before.before.loop-test.true (omega (arith, a.requires.0, a.requires.1)) l.invariant.1 refl refl)
+    (omega arith, traded_more a.args.rules.now l.rules (a.args.rule + 56 + 5) l.j _ _ c.before.before.loop-test.true (omega (arith, a.requires.0, a.requires.1)) l.invariant.1 refl refl)
 
 returns : tie.Need-returns invariant-loop decreases-loop
 returns c =

@@ -1,6 +1,6 @@
 -- The parts make the rule; the lengths and the arities stay, so every part has its room.
 use native.Mathlib.Omega.{arith}
-use Rattle.book.proofs.{Heading.header_kept, RuleParts.kept₀₅, RuleParts.body-fills}
+use Rattle.book.proofs.{Heading.header_kept, RuleParts.kept₀₅, RuleParts.body_fills}
 use Rattle.book.proofs.body.Statement.{statement}
 use Rattle.book.proofs.body.Tie as tie
 
@@ -26,7 +26,7 @@ returns : tie.Need-returns
 returns c =
     let count = c.before.before.before.before.before.before.before in
     let s = start (first (second count)) in
-    body-fills s.args.given.now s.args.n s.args.at (first (second count)).count.ensures (second count).before.before.before.before.pures.ensures
+    body_fills s.args.given.now s.args.n s.args.at (first (second count)).count.ensures (second count).before.before.before.before.pures.ensures
     (second count).count2.ensures count.before.before.before.before.atoms.ensures count.count3.ensures
     s.pre.1 s.pre.2 c.before.before.calls.ensures
 

@@ -1,7 +1,7 @@
 -- The three sections make the rule set; each has its room, and the arities stay.
 use native.Mathlib.Omega.{arith}
 use borrow.Author.Rules.{rules}
-use Rattle.book.proofs.Whole.{header₃, rule-set-fills}
+use Rattle.book.proofs.Whole.{header₃, rule-set_fills}
 use Rattle.book.proofs.rule_set.Statement.{statement}
 use Rattle.book.proofs.rule_set.Tie as tie
 
@@ -34,7 +34,7 @@ returns c =
     let d = c.before.before.before.before.before.before.before.before in
     let a = counts (fixed d) in
     let e = first a in
-    rule-set-fills e.count.ensures a.arities.ensures (fixed d).constants.ensures d.count2.ensures (search rules) c.before.before.rules.ensures
+    rule-set_fills e.count.ensures a.arities.ensures (fixed d).constants.ensures d.count2.ensures (search rules) c.before.before.rules.ensures
 
 pub rule-set-spec : {M : Type 1} → statement M
 rule-set-spec =

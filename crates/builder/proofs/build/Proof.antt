@@ -4,7 +4,7 @@ use Rattle.builder.proofs.build.Statement.{statement}
 use Rattle.builder.proofs.build.Tie as tie
 use mathlib.Core.Path.{◌∙◌}
 use native.Mathlib.Omega.{arith}
-use Rattle.builder.proofs.Building.{cleared_marks, lent_cleared, plan_numberable, named-lined, lines-inside, builds}
+use Rattle.builder.proofs.Building.{cleared_marks, lent_cleared, plan_numberable, named_lined, lines_inside, builds}
 
 -- places that the answers go back to
 abbrev entry : tie.After-clear-part → tie.Start
@@ -29,7 +29,7 @@ gather-requires : tie.Need-gather-requires
 gather-requires c κs =
     let s = entry (after-clear-part (after-prepare c.before.before.before)) in
     let r = plan_numberable s.pre (after-clear-part (after-prepare c.before.before.before)).clear-part.auto.0 (after-prepare c.before.before.before).prepare.ensures in
-    (s.pre.place, named-lined r c.before.before.before.number.ensures)
+    (s.pre.place, named_lined r c.before.before.before.number.ensures)
 
 mul-clear-from : tie.Need-overflow-mul-clear-from
 mul-clear-from c =
@@ -37,12 +37,12 @@ mul-clear-from c =
     let p = (after-prepare (after-number c.before.before.before)).prepare.ensures in
     let m = (after-number c.before.before.before).number.ensures in
     let r = plan_numberable s.pre (after-clear-part (after-prepare (after-number c.before.before.before))).clear-part.auto.0 p in
-    omega (arith, lines-inside r m, m.long, p.long, (after-clear-part (after-prepare (after-number c.before.before.before))).clear-part.auto.0, s.pre.three, s.pre.lines)
+    omega (arith, lines_inside r m, m.long, p.long, (after-clear-part (after-prepare (after-number c.before.before.before))).clear-part.auto.0, s.pre.three, s.pre.lines)
 
 clear-from-requires : tie.Need-clear-from-requires
 clear-from-requires c κs =
     let r = plan_numberable (entry (after-clear-part (after-prepare (after-number c.before.before.before)))).requires (after-clear-part (after-prepare (after-number c.before.before.before))).clear-part.auto.0 (after-prepare (after-number c.before.before.before)).prepare.ensures in
-    omega (arith, lines-inside r (after-number c.before.before.before).number.ensures, c.before.before.before.gather.ensures.long)
+    omega (arith, lines_inside r (after-number c.before.before.before).number.ensures, c.before.before.before.gather.ensures.long)
 
 returns : tie.Need-returns
 returns c =

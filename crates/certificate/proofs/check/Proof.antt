@@ -39,13 +39,13 @@ line-holds-requires c κs =
 loop-again : tie.Need-loop-preserved invariant-loop decreases-loop
 loop-again c =
     let l = c.before.before.before.loop in
-    (omega arith, omega arith, below_more _ _ l.invariant.2 (λ low. c.before.line-holds.ensures.so c.if5.true))
+    (omega arith, omega arith, below_more _ _ l.invariant.2 (λ low. c.before.line_holds.ensures.so c.if5.true))
 
 returns-5 : tie.Need-returns-5 invariant-loop decreases-loop
 returns-5 c =
     let l = c.before.before.before in
     checked (start l).requires
-    (told_false (λ p. c.before.line-holds.ensures.not_so c.if5.false (p.each l.loop.k l.loop.invariant.0 c.before.before.loop-test.true)))
+    (told_false (λ p. c.before.line_holds.ensures.not_so c.if5.false (p.each l.loop.k l.loop.invariant.0 c.before.before.loop-test.true)))
 
 returns-6 : tie.Need-returns-6 invariant-loop decreases-loop
 returns-6 c =

@@ -15,7 +15,7 @@ start c = c.before.before.before.before
 
 -- the number of the line's rule
 numbered : (c : tie.After-wide) → c.wide.result ≡ rule_at (start c).args.words.now (start c).args.k % 256
-numbered c = c.wide.ensures.0 ∙ c.before.rule-of.ensures ∙ ap (λ (x : ℕ). x % 256) c.before.before.rule-at.ensures
+numbered c = c.wide.ensures.0 ∙ c.before.rule-of.ensures ∙ ap (λ (x : ℕ). x % 256) c.before.before.rule_at_lem.ensures
 
 returns : tie.Need-returns
 returns c = told_false (λ p. omega (arith, p.in_rule_set, c.if1.true, c.before.rule-count.ensures, numbered c.before.before))

@@ -3,7 +3,7 @@ use mathlib.Core.Path.{sym}
 use lib.Seq.{length-take-le}
 use native.Mathlib.Omega.{arith}
 use Prim.Native.Nat.{◌≤◌}
-use Rattle.engine.proofs.Demands.{check-refusal-most, taken-most}
+use Rattle.engine.proofs.Demands.{check_refusal_most, taken_most}
 use Rattle.desk.proofs.Numbers.{loaded_within, loaded_long, desk_checked}
 use borrow.Author.Rules.{rules}
 use Rattle.desk.proofs.desk_check.Statement.{statement}
@@ -20,10 +20,10 @@ abbrev start : tie.After-struct-known → tie.Start
 start c = c.before.before.before.before.before.before.before.before.before.before
 
 refusal : (c : tie.After-struct-known) → c.before.check.result.refusal ≤ 9
-refusal c = let a = (start c).args in check-refusal-most a.book.now a.snapshot.now a.question.now _ c.before.check.ensures
+refusal c = let a = (start c).args in check_refusal_most a.book.now a.snapshot.now a.question.now _ c.before.check.ensures
 
 second : (c : tie.After-struct-known) → c.before.check.result.taken ≤ 1
-second c = let a = (start c).args in taken-most a.book.now a.snapshot.now a.question.now _ c.before.check.ensures
+second c = let a = (start c).args in taken_most a.book.now a.snapshot.now a.question.now _ c.before.check.ensures
 
 mul-result : tie.Need-overflow-mul-result
 mul-result c = omega (arith, refusal c)

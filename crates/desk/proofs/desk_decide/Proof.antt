@@ -3,7 +3,7 @@ use native.Mathlib.Omega.{arith}
 use Rattle.semantics.specs.Lists.{zeros}
 use mathlib.Core.Path.{refl}
 use Prim.Native.Nat.{◌≤◌}
-use Rattle.engine.proofs.Demands.{refusal-most, verdict-most}
+use Rattle.engine.proofs.Demands.{refusal_most, verdict_most}
 use borrow.Author.Rules.{rules}
 use Rattle.desk.proofs.desk_decide.Statement.{statement}
 use Rattle.desk.proofs.desk_decide.Tie as tie
@@ -14,12 +14,12 @@ start c = c.before.before.before.before.before.before.before.before.before
 refusal : (c : tie.After-struct-known) → c.before.before.before.decide.result.refusal ≤ 11
 refusal c =
     let a = (start c).args in
-    refusal-most a.book.now a.snapshot.now a.question.now (zeros 1024) (zeros 3072) c.before.before.before.decide.ensures
+    refusal_most a.book.now a.snapshot.now a.question.now (zeros 1024) (zeros 3072) c.before.before.before.decide.ensures
 
 second : (c : tie.After-struct-known) → c.before.before.before.decide.result.verdict ≤ 1
 second c =
     let a = (start c).args in
-    verdict-most a.book.now a.snapshot.now a.question.now (zeros 1024) (zeros 3072) c.before.before.before.decide.ensures
+    verdict_most a.book.now a.snapshot.now a.question.now (zeros 1024) (zeros 3072) c.before.before.before.decide.ensures
 
 mul-result : tie.Need-overflow-mul-result
 mul-result c = omega (arith, refusal c)

@@ -2,7 +2,7 @@
 -- certificate.
 use mathlib.Core.Path.{refl}
 use Rattle.semantics.specs.Contract.{Checks}
-use Rattle.formats.proofs.Answers.{well_formed, block-long, unread, answered}
+use Rattle.formats.proofs.Answers.{well_formed, block_long, unread, answered}
 use Rattle.engine.proofs.Answers.{few_records, chosen_taken}
 use borrow.Author.Rules.{rules}
 use Rattle.engine.proofs.check_for.Statement.{statement}
@@ -23,7 +23,7 @@ chosen-requires c κs =
 takes-requires : tie.Need-takes-requires
 takes-requires c κs =
     let a = read_whole c in
-    (well_formed a.before.before.read.ensures a.enum_told.given.1, block-long a.before.before.read.ensures a.enum_told.given.1)
+    (well_formed a.before.before.read.ensures a.enum_told.given.1, block_long a.before.before.read.ensures a.enum_told.given.1)
 
 returns : tie.Need-returns
 returns c =

@@ -1,7 +1,7 @@
 -- `decide_for` meets its contract: what the reader refuses is refused, then memory that does not fit together; otherwise the reply is that of
 -- `answer`.
 use mathlib.Core.Path.{refl}
-use Rattle.formats.proofs.Answers.{well_formed, block-long, unread, unlent, answered}
+use Rattle.formats.proofs.Answers.{well_formed, block_long, unread, unlent, answered}
 use borrow.Author.Rules.{rules}
 use Rattle.engine.proofs.decide_for.Statement.{statement}
 use Rattle.engine.proofs.decide_for.Tie as tie
@@ -18,7 +18,7 @@ answer-requires c κs =
     let t = lent c in
     let a = read_whole t in (
       well_formed a.before.before.read.ensures a.enum_told.given.1,
-      block-long a.before.before.read.ensures a.enum_told.given.1,
+      block_long a.before.before.read.ensures a.enum_told.given.1,
       t.before.lends.ensures.so t.if1.taken,
     )
 

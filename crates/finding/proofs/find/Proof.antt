@@ -6,7 +6,7 @@ use borrow.Author.Rules.{rules}
 use Rattle.finding.specs.{Values.Counted, Links.Keeps}
 use Rattle.block.specs.Layout.{fixed_in}
 use Rattle.finding.proofs.{Opens.opens_kept, Shapes.shaped}
-use Rattle.finding.proofs.Turns.{Sought, sought-none, sought-more, turn-keeps, still-turn, still_all}
+use Rattle.finding.proofs.Turns.{Sought, sought_none, sought_more, turn_keeps, still_turn, still_all}
 use Rattle.finding.proofs.Found.{all_found}
 use Rattle.finding.proofs.find.Statement.{statement}
 use Rattle.finding.proofs.find.Tie as tie
@@ -36,19 +36,19 @@ sought : (c : tie.After-along-atoms invariant-loop decreases-loop) → Sought-at
 sought c =
     let l = at c in
     let g = l.before.before.before.args in
-    sought-more (fixed_in g.given.now) g.rules.now g.rule g.heap.now l.loop.values (middle c) (after c) c.before.before.along-pures.ensures.0 (c.along-atoms.ensures.0 (fixed_in g.given.now))
+    sought_more (fixed_in g.given.now) g.rules.now g.rule g.heap.now l.loop.values (middle c) (after c) c.before.before.along-pures.ensures.0 (c.along-atoms.ensures.0 (fixed_in g.given.now))
     l.before.begin.last.1.1.0 l.loop.inv.0
 
 keeps : (c : tie.After-along-atoms invariant-loop decreases-loop) → Keeps (at c).loop.values (after c)
 keeps c =
     let l = at c in
     let g = l.before.before.before.args in
-    turn-keeps (fixed_in g.given.now) g.rules.now g.rule g.heap.now l.loop.values (middle c) (after c) c.before.before.along-pures.ensures.0 (c.along-atoms.ensures.0 (fixed_in g.given.now))
+    turn_keeps (fixed_in g.given.now) g.rules.now g.rule g.heap.now l.loop.values (middle c) (after c) c.before.before.along-pures.ensures.0 (c.along-atoms.ensures.0 (fixed_in g.given.now))
 
 loop-holds : tie.Need-loop-init invariant-loop decreases-loop
 loop-holds c =
     let g = c.before.before.args in
-    (sought-none (fixed_in g.given.now) g.rules.now g.rule g.heap.now c.begin.new.1.1.0, c.begin.ensures.1)
+    (sought_none (fixed_in g.given.now) g.rules.now g.rule g.heap.now c.begin.new.1.1.0, c.begin.ensures.1)
 
 along-pures-requires : tie.Need-along-pures-requires invariant-loop decreases-loop
 along-pures-requires c κs = let s = c.before.before.before.before.before in (s.requires.0, c.before.before.loop.invariant.1, s.requires.3)
@@ -65,7 +65,7 @@ returns c =
     let counted = t.along-atoms.ensures.1 in (
       all_found g.given.now g.rules.now g.rule g.heap.now g.values.now s.pre.0 s.pre.2.eight (sym s.pre.2.is)
           l.before.begin.last.1.1.0 (after t) counted.eight l.before.begin.ensures.0 (sought t)
-          (still-turn (fixed_in g.given.now) g.rules.now g.rule g.heap.now l.loop.values (middle t) (after t) t.before.before.along-pures.ensures.0
+          (still_turn (fixed_in g.given.now) g.rules.now g.rule g.heap.now l.loop.values (middle t) (after t) t.before.before.along-pures.ensures.0
           (t.along-atoms.ensures.0 (fixed_in g.given.now)) (omega (arith, counted.eight, l.loop.inv.1.eight)) (omega (arith, counted.is, l.loop.inv.1.is, c.if1.true))),
       record { eight = counted.eight; is = omega (arith, counted.is, c.if1.true) },
     )

@@ -3,7 +3,7 @@ use Prim.Native.Nat.{◌+◌, ◌-◌, ◌≤◌}
 use mathlib.Core.{Path.◌≡◌, Logic.⊎_elim}
 use native.Mathlib.Omega.{arith}
 use Rattle.placing.specs.Placed.{BytesPlaced}
-use Rattle.placing.proofs.PlacingRules.{bytes_low, bytes-join, byte_low, byte-fixed}
+use Rattle.placing.proofs.PlacingRules.{bytes_low, bytes_join, byte_low, byte_fixed}
 use borrow.Author.Rules.{rules}
 use Rattle.placing.proofs.place_bytes.Statement.{statement}
 use Rattle.placing.proofs.place_bytes.Tie as tie
@@ -28,8 +28,8 @@ loop-again c =
     let e = c.before.wide.ensures.0 in (
       omega arith,
       omega arith,
-      bytes-join l.i (l.i + 1) l.invariant.0 (omega arith) l.invariant.2 (⊎_elim
-          (λ w. rw w.3 (byte-fixed l.i _ w.2.result l.invariant.2.long (omega arith) (omega (arith, w.0.taken)) (rw (w.1.ensures, e) at w.2.ensures) (omega arith)))
+      bytes_join l.i (l.i + 1) l.invariant.0 (omega arith) l.invariant.2 (⊎_elim
+          (λ w. rw w.3 (byte_fixed l.i _ w.2.result l.invariant.2.long (omega arith) (omega (arith, w.0.taken)) (rw (w.1.ensures, e) at w.2.ensures) (omega arith)))
           (λ w. rw w.1 (byte_low l.i l.invariant.2.long (omega (arith, w.0.left)))) c.if1.branch),
     )
 

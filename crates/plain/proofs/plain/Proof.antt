@@ -5,7 +5,7 @@ use native.Mathlib.Omega.{arith}
 use Rattle.words.proofs.Answers.{told_true, told_false}
 use Rattle.block.specs.Layout.{rule_set_read}
 use Rattle.plain.specs.Plain.{PlainRule}
-use Rattle.plain.proofs.Conclusion.{plain-all, plain-each}
+use Rattle.plain.proofs.Conclusion.{plain_all, plain_each}
 use Rattle.plain.proofs.plain.Statement.{statement}
 use Rattle.plain.proofs.plain.Tie as tie
 
@@ -28,12 +28,12 @@ returns : tie.Need-returns invariant-loop decreases-loop
 returns c =
     let l : tie.At-loop invariant-loop decreases-loop = c.before.before.before in
     told_false (λ plain. c.before.plain-rule.ensures.not_so c.if1.false
-    (plain-each l.before.before.requires plain l.loop.r (omega (arith, l.before.rule-count.ensures.0, c.before.before.loop-test.true))))
+    (plain_each l.before.before.requires plain l.loop.r (omega (arith, l.before.rule-count.ensures.0, c.before.before.loop-test.true))))
 
 returns-2 : tie.Need-returns-2 invariant-loop decreases-loop
 returns-2 c =
     let l : tie.At-loop invariant-loop decreases-loop = c.before in
-    told_true (plain-all l.before.before.requires (λ r h. l.loop.invariant.1 r (omega (arith, l.before.rule-count.ensures.0, c.loop-test.false))))
+    told_true (plain_all l.before.before.requires (λ r h. l.loop.invariant.1 r (omega (arith, l.before.rule-count.ensures.0, c.loop-test.false))))
 
 pub plain-spec : {M : Type 1} → statement M
 plain-spec =

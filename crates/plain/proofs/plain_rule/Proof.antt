@@ -5,7 +5,7 @@ use Rattle.words.proofs.Answers.{told_false, told_as}
 use Rattle.block.specs.Layout.{rule_set_read}
 use Rattle.finding.proofs.Shapes.{shaped}
 use Rattle.plain.specs.Plain.{ExcludesLater}
-use Rattle.plain.proofs.{Places.rules_few, Places.placed, Conclusion.plain_here, Conclusion.consumes-back, Conclusion.fixes-back}
+use Rattle.plain.proofs.{Places.rules_few, Places.placed, Conclusion.plain_here, Conclusion.consumes_back, Conclusion.fixes_back}
 use Rattle.plain.proofs.plain_rule.Statement.{statement}
 use Rattle.plain.proofs.plain_rule.Tie as tie
 
@@ -35,13 +35,13 @@ returns-2 : tie.Need-returns-2
 returns-2 c =
     let p : tie.After-rule-place = c.before.before.before.before in
     let s : tie.Start = p.before in
-    told_false (λ plain. c.before.fixes.ensures.not_so c.if2.false (fixes-back s.requires.0 s.args.r p.rule-place.result s.requires.1 p.rule-place.ensures plain))
+    told_false (λ plain. c.before.fixes.ensures.not_so c.if2.false (fixes_back s.requires.0 s.args.r p.rule-place.result s.requires.1 p.rule-place.ensures plain))
 
 returns-3 : tie.Need-returns-3
 returns-3 c =
     let p : tie.After-rule-place = c.before.before in
     let s : tie.Start = p.before in
-    told_false (λ plain. c.before.consumes.ensures.not_so c.if1.false (consumes-back s.requires.0 s.args.r p.rule-place.result s.requires.1 p.rule-place.ensures plain))
+    told_false (λ plain. c.before.consumes.ensures.not_so c.if1.false (consumes_back s.requires.0 s.args.r p.rule-place.result s.requires.1 p.rule-place.ensures plain))
 
 pub plain-rule-spec : {M : Type 1} → statement M
 plain-rule-spec =

@@ -2,7 +2,7 @@
 use borrow.Author.Rules.{rules}
 use native.Mathlib.Omega.{arith}
 use mathlib.Core.Path.{sym, ◌∙◌}
-use Rattle.sections.proofs.ThreeSections.{book-house, book-own, decided_book}
+use Rattle.sections.proofs.ThreeSections.{book_house, book_own, decided_book}
 use Rattle.sections.proofs.answer.Statement.{statement}
 use Rattle.sections.proofs.answer.Tie as tie
 
@@ -25,13 +25,13 @@ divided-2 c = (called c).before.before.before.before.before.before
 returns : tie.Need-returns
 returns c =
     let empty = (house-lent c).before.if1.true in
-    decided_book (divided c).before.before.before.before.args.input.now (house-lent c).house.result _ ((house-lent c).house.ensures ∙ sym (book-house _ (divided c).split.ensures (omega (arith, empty)))) (house-called c).decide.ensures
+    decided_book (divided c).before.before.before.before.args.input.now (house-lent c).house.result _ ((house-lent c).house.ensures ∙ sym (book_house _ (divided c).split.ensures (omega (arith, empty)))) (house-called c).decide.ensures
 
 returns-2 : tie.Need-returns-2
 returns-2 c =
     let some = (called c).before.before.before.before.if1.false in
     let s = (divided-2 c).split.ensures in
-    rw (book-own _ s (omega (arith, some, s.book.order))) at (called c).decide2.ensures
+    rw (book_own _ s (omega (arith, some, s.book.order))) at (called c).decide2.ensures
 
 pub answer-spec : {M : Type 1} → statement M
 answer-spec =

@@ -1,6 +1,6 @@
 -- The sections lie within the input, so they can be lent; what was asked about them is what was asked about their bytes.
 use borrow.Author.Rules.{rules}
-use Rattle.sections.proofs.ThreeSections.{snapshot-bytes, question-bytes}
+use Rattle.sections.proofs.ThreeSections.{snapshot_bytes, question_bytes}
 use Rattle.sections.proofs.decide.Statement.{statement}
 use Rattle.sections.proofs.decide.Tie as tie
 
@@ -13,7 +13,7 @@ start c = (called c).before.before.before.before.before.before.before.before.bef
 returns : tie.Need-returns
 returns c =
     let i = (start c).args.input.now in
-    rw (snapshot-bytes i (start c).requires, question-bytes i (start c).requires) at (called c).decide.ensures
+    rw (snapshot_bytes i (start c).requires, question_bytes i (start c).requires) at (called c).decide.ensures
 
 pub decide-spec : {M : Type 1} → statement M
 decide-spec =

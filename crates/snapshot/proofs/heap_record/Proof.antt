@@ -10,8 +10,8 @@ use denote.Enum.Laws as enum_laws
 use Rattle.snapshot.specs.HeapLayout.{record_layout}
 use Rattle.reader.specs.Layout.{Fills}
 use Rattle.reader.specs.declared.{Cursor.Cursor, Reader.Reader}
-use Rattle.reader.proofs.Carry.{cursor_val, slice_of, reader_val, IsCursor, cursor_makes, Bytes, IsBytes, parts_are, reader-told, cursor-typed}
-use Rattle.reader.proofs.Carry.{reader-typed, made-typed, together}
+use Rattle.reader.proofs.Carry.{cursor_val, slice_of, reader_val, IsCursor, cursor_makes, Bytes, IsBytes, parts_are, reader_told, cursor_typed}
+use Rattle.reader.proofs.Carry.{reader_typed, made_typed, together}
 use Rattle.reader.proofs.Walk.{Vals, Ura, full_share, named, erased, w32, w64, Val, vint, SProp, ent, emp, id⊢, Lft, Share, ftrue, fat, flft}
 use Rattle.reader.proofs.Walk.{Memory, Routine, Calls, Loops, WpFn, FmC, fm_of, Fun, fact_i, tables, tables_of, ‵}
 use Rattle.reader.proofs.Walk.{raw, ◌⊛◌, ◌$◌, ◌∵◌, !, qed, move, drop, use1, join, fsplit, fjoin, rewrite, suffices, frame, done, agg}
@@ -83,9 +83,9 @@ module _ {M : Type 1} {𝓤 : Ura M} (𝓛 : Logic 𝓤) (mem : Memory → SProp
       alloc1 ! (λ l₀. alloc1 !
       (λ l₁. alloc1 ! (λ l₂. alloc1 ! (λ l₃. alloc1 ! (λ l₄. alloc1 ! (λ l₅. alloc1 ! (λ l₆. alloc1 ! (λ l₇. alloc1 ! (λ l₈. alloc1 ! (λ l₉. alloc0 ! $
       params1 ! $ pass1 ! (init ! 16 refl ((shr_slice_Lawful 𝓛 (named 0) κ u8).typed s (slice_of s ∷ []) bytes).0) $
-      pass1 ! (init ! 14 refl (cursor-typed α 𝓛 c is)) $ pass1 ! (init ! 12 refl block) $ pass1 ! (init ! 10 refl (tt, record { fits = small })) $
+      pass1 ! (init ! 14 refl (cursor_typed α 𝓛 c is)) $ pass1 ! (init ! 12 refl block) $ pass1 ! (init ! 10 refl (tt, record { fits = small })) $
       pass1 ! (init ! 8 refl (tt, record { fits = tiny })) $ pass0 ! $
-      sets ! (agg ! (and_then ! (local ! 16 refl) (and_then ! (local ! 14 refl) (no_more !)))) 4 refl refl (made-typed β 𝓛 s c bytes is) $
+      sets ! (agg ! (and_then ! (local ! 16 refl) (and_then ! (local ! 14 refl) (no_more !)))) 4 refl refl (made_typed β 𝓛 s c bytes is) $
       sets ! (addr ! (from ! (fld ! refl (hop ! (look_in ! 12 (sub ! 0 refl (whole !))) (stop !))))) 2 refl refl (tt, tt) $
       sets ! (agg ! (and_then ! (local ! 2 refl) (and_then ! (part ! 12 1 refl refl refl) (no_more !)))) 0 refl refl (tt, block.1) $ move ! (20 ∷ []) $
       use1 𝓛 (raw (There.pre there)) (to-record is within) $
@@ -96,9 +96,9 @@ module _ {M : Type 1} {𝓤 : Ura M} (𝓛 : Logic 𝓤) (mem : Memory → SProp
       (λ r ws. (r.bytes ≡ s) × Fills (record_layout low) at s.now c h.now ws.1.0 r.at) (λ r ws. id⊢ 𝓤 _) (λ r ws told ris.
       let parts = parts_are α r w ris in
       -- [the reader; the tokens; the last list; room for _9; …]: local i stands at 3 + 2 · (9 − i)
-      land ! (from ! (stop !)) (init ! 9 refl (reader-typed β 𝓛 r w ris)) $
-      rewrite ! 9 (λ (z : Val). ‵ (fat full_share (reader-laws.mir erased) l₆ 0 z)) (reader-told α r w ris) refl $
-      sets ! (of_opd ! (part ! 9 1 refl refl refl)) 21 refl refl (cursor-typed α 𝓛 r.at parts.1) $ returns ! (look ! 21 refl) $
+      land ! (from ! (stop !)) (init ! 9 refl (reader_typed β 𝓛 r w ris)) $
+      rewrite ! 9 (λ (z : Val). ‵ (fat full_share (reader-laws.mir erased) l₆ 0 z)) (reader_told α r w ris) refl $
+      sets ! (of_opd ! (part ! 9 1 refl refl refl)) 21 refl refl (cursor_typed α 𝓛 r.at parts.1) $ returns ! (look ! 21 refl) $
       gone ! 21 refl refl $ gone ! 19 refl refl $ gone ! 17 refl refl $ gone ! 15 refl refl $ gone ! 13 refl refl $ gone ! 11 refl refl $ gone ! 9 refl refl $
       gone ! 7 refl refl $ gone ! 5 refl refl $ gone ! 3 refl refl $ free0 ! $
       suffices ! _

@@ -13,8 +13,8 @@ use Rattle.reader.specs.Answer.{finished}
 use Rattle.reader.specs.declared.Cursor.TheVariants.{At}
 use Rattle.reader.specs.declared.{Ladder.Ladder, Reader.Reader}
 use Rattle.reader.proofs.Finishing.{finish_is}
-use Rattle.reader.proofs.Carry.{cursor_val, slice_of, reader_val, IsCursor, cursor_makes, Bytes, IsBytes, parts_are, reader-told, cursor-typed}
-use Rattle.reader.proofs.Carry.{reader-typed, made-typed, apart, together}
+use Rattle.reader.proofs.Carry.{cursor_val, slice_of, reader_val, IsCursor, cursor_makes, Bytes, IsBytes, parts_are, reader_told, cursor_typed}
+use Rattle.reader.proofs.Carry.{reader_typed, made_typed, apart, together}
 use Rattle.reader.proofs.Walk.{Ura, full_share, named, erased, w8, Val, vint, SProp, ent, sep, emp, id⊢, Lft, Share, Fml, ftrue, fat, flft}
 use Rattle.reader.proofs.Walk.{Memory, Routine, Calls, Loops, WpFn, FmC, fm_of, sem, Fun, fact_i, tables, tables_of}
 use Rattle.reader.proofs.Walk.{‵, raw, ◌⊛◌, ◌$◌, ◌∵◌, !, qed, move, drop, use1, use2, split, join, fsplit, fjoin, rewrite, suffices}
@@ -118,9 +118,9 @@ module _ {M : Type 1} {𝓤 : Ura M} (𝓛 : Logic 𝓤) (mem : Memory → SProp
       alloc1 ! (λ l₀. alloc1 ! (λ l₁. alloc1 !
       (λ l₂. alloc1 ! (λ l₃. alloc1 ! (λ l₄. alloc1 ! (λ l₅. alloc1 ! (λ l₆. alloc1 ! (λ l₇. alloc1 ! (λ l₈. alloc1 ! (λ l₉. alloc1 ! (λ l₁₀. alloc0 ! $
       params1 ! $ pass1 ! (init ! 18 refl ((shr_slice_Lawful 𝓛 (named 0) κ u8).typed s (slice_of s ∷ []) bytes).0) $ pass1 ! (init ! 16 refl block) $
-      pass0 ! $ sets ! (agg ! (and_then ! (lit ! tt) (and_then ! (lit ! tt) (no_more !)))) 10 refl refl (cursor-typed α 𝓛 (At 0) at-start) $
-      sets ! (agg ! (and_then ! (local ! 18 refl) (and_then ! (local ! 10 refl) (no_more !)))) 14 refl refl (made-typed β 𝓛 s (At 0) bytes at-start) $
-      sets ! (of_opd ! (local ! 14 refl)) 8 refl refl (made-typed β 𝓛 s (At 0) bytes at-start) $
+      pass0 ! $ sets ! (agg ! (and_then ! (lit ! tt) (and_then ! (lit ! tt) (no_more !)))) 10 refl refl (cursor_typed α 𝓛 (At 0) at-start) $
+      sets ! (agg ! (and_then ! (local ! 18 refl) (and_then ! (local ! 10 refl) (no_more !)))) 14 refl refl (made_typed β 𝓛 s (At 0) bytes at-start) $
+      sets ! (of_opd ! (local ! 14 refl)) 8 refl refl (made_typed β 𝓛 s (At 0) bytes at-start) $
       sets ! (addr ! (from ! (fld ! refl (hop ! (look_in ! 16 (sub ! 0 refl (whole !))) (stop !))))) 6 refl refl (tt, tt) $
       sets ! (agg ! (and_then ! (local ! 6 refl) (and_then ! (part ! 16 1 refl refl refl) (no_more !)))) 4 refl refl (tt, block.1) $ move ! (22 ∷ []) $
       use1 𝓛 (raw (First.pre first)) (to-section long) $
@@ -130,11 +130,11 @@ module _ {M : Type 1} {𝓤 : Ura M} (𝓛 : Logic 𝓤) (mem : Memory → SProp
       (λ r ws done-so-far ris.
       let parts = parts_are α r w ris in
       -- [the reader; the tokens; the last list; room for _10; …]: local i stands at 3 + 2 · (10 − i)
-      land ! (from ! (stop !)) (init ! 15 refl (reader-typed β 𝓛 r w ris)) $
-      rewrite ! 15 (λ (z : Val). ‵ (fat full_share (reader-laws.mir erased) l₄ 0 z)) (reader-told α r w ris) refl $
+      land ! (from ! (stop !)) (init ! 15 refl (reader_typed β 𝓛 r w ris)) $
+      rewrite ! 15 (λ (z : Val). ‵ (fat full_share (reader-laws.mir erased) l₄ 0 z)) (reader_told α r w ris) refl $
       sets ! (of_opd ! (part ! 15 0 refl refl refl)) 5 refl refl
       (tt, ((shr_slice_Lawful 𝓛 (named 0) κ u8).typed r.bytes (slice_of r.bytes ∷ []) parts.0).0.1) $
-      sets ! (of_opd ! (part ! 15 1 refl refl refl)) 3 refl refl (cursor-typed α 𝓛 r.at parts.1) $
+      sets ! (of_opd ! (part ! 15 1 refl refl refl)) 3 refl refl (cursor_typed α 𝓛 r.at parts.1) $
       use2 𝓛 (raw (Then.pre (then r)) ⊛ (‵ (flft μ p) ⊛ ‵ ftrue)) (to-finish r w parts.1) $ split ! $
       -- [the call; the block's token; the last list; room for _10; …]: local i stands at 3 + 2 · (10 − i)
       calls_at ! fm Then known (then r) (and_then ! (local ! 5 refl) (and_then ! (local ! 3 refl) (and_then ! (lit ! tt) (no_more !))))

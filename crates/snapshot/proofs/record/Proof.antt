@@ -14,8 +14,8 @@ use Rattle.semantics.specs.Reader.{word as wordReader}
 use Rattle.reader.specs.{Cursor.Yields, Layout.Fills}
 use Rattle.snapshot.specs.HeapLayout.{record_layout, AfterWord}
 use Rattle.reader.specs.declared.{Cursor.Cursor, Reader.Reader, Word.Word}
-use Rattle.reader.proofs.Carry.{cursor_val, slice_of, reader_val, cursor_is, cursor_told, cursor_makes, Bytes, cursor-typed, reader-typed}
-use Rattle.reader.proofs.Carry.{made-typed, together}
+use Rattle.reader.proofs.Carry.{cursor_val, slice_of, reader_val, cursor_is, cursor_told, cursor_makes, Bytes, cursor_typed, reader_typed}
+use Rattle.reader.proofs.Carry.{made_typed, together}
 use Rattle.reader.proofs.Walk.{Vals, Ura, full_share, named, erased, w8, w32, w64, Val, vint, SProp, ent, sep, emp, id⊢, Lft, Share, Fml}
 use Rattle.reader.proofs.Walk.{ftrue, fat, flft, Memory, Routine, Calls, Loops, WpFn, FmC, fm_of, sem, Fun, fact_i}
 use Rattle.reader.proofs.Walk.{tables, tables_of, ‵, raw, ◌⊛◌, given, ◌$◌, ◌∵◌, !, qed, move, keep, drop, use1, use2, use3, split}
@@ -132,9 +132,9 @@ module _ {M : Type 1} {𝓤 : Ura M} (𝓛 : Logic 𝓤) (mem : Memory → SProp
       qed 𝓛 (raw Start ∷ []) ∵ enter ! C Λ code.function (u ∷ b ∷ vint w64 at ∷ vint w32 low ∷ []) _ $
       alloc1 ! (λ l₀. alloc1 ! (λ l₁. alloc1 ! (λ l₂. alloc1 ! (λ l₃. alloc1 ! (λ l₄. alloc1 !
       (λ l₅. alloc1 ! (λ l₆. alloc1 ! (λ l₇. alloc1 ! (λ l₈. alloc1 ! (λ l₉. alloc1 ! (λ l₁₀. alloc1 ! (λ l₁₁. alloc1 ! (λ l₁₂. alloc1 ! (λ l₁₃. alloc0 ! $
-      params1 ! $ pass1 ! (init ! 24 refl (reader-typed α 𝓛 d u is)) $ pass1 ! (init ! 22 refl block) $
+      params1 ! $ pass1 ! (init ! 24 refl (reader_typed α 𝓛 d u is)) $ pass1 ! (init ! 22 refl block) $
       pass1 ! (init ! 20 refl (tt, record { fits = small })) $ pass1 ! (init ! 18 refl (tt, record { fits = tiny })) $ pass0 ! $
-      sets ! (of_opd ! (local ! 24 refl)) 12 refl refl (reader-typed β 𝓛 d u is) $ move ! (28 ∷ []) $
+      sets ! (of_opd ! (local ! 24 refl)) 12 refl refl (reader_typed β 𝓛 d u is) $ move ! (28 ∷ []) $
       use1 𝓛 (raw (First.pre first) ⊛ ((‵ (flft μ p) ⊛ ‵ ftrue) ⊛ ‵ Rest)) to_word $ split ! $
       -- [the call; what is kept; room for _13; …]: local i stands at 2 + 2 · (13 − i)
       calls_at ! fm First known-word first (and_then ! (local ! 14 refl) (and_then ! (lit ! tt) (no_more !)))
@@ -146,7 +146,7 @@ module _ {M : Type 1} {𝓤 : Ura M} (𝓛 : Logic 𝓤) (mem : Memory → SProp
       rewrite ! 20 (λ (z : Val). ‵ (fat full_share (word_laws.mir erased) l₅ 0 z))
       (ap only (struct_laws.tells (word_of.the_type α) (word_laws.the_laws α) r _ ris)) refl $
       sets ! (of_opd ! (part ! 20 0 refl refl refl)) 14 refl refl (tt, typed.1.0) $
-      sets ! (of_opd ! (part ! 20 1 refl refl refl)) 12 refl refl (cursor-typed α 𝓛 r.at fields.1.0) $
+      sets ! (of_opd ! (part ! 20 1 refl refl refl)) 12 refl refl (cursor_typed α 𝓛 r.at fields.1.0) $
       sets ! (of_opd ! (part ! 20 2 refl refl refl)) 10 refl refl (tt, record { fits = fields.1.1.0.1 }) $
       sets ! (addr ! (from ! (fld ! refl (hop ! (look_in ! 26 (sub ! 0 refl (whole !))) (stop !))))) 8 refl refl (tt, tt) $
       sets ! (agg ! (and_then ! (local ! 8 refl) (and_then ! (part ! 26 1 refl refl refl) (no_more !)))) 6 refl refl (tt, block.1) $
@@ -160,7 +160,7 @@ module _ {M : Type 1} {𝓤 : Ura M} (𝓛 : Logic 𝓤) (mem : Memory → SProp
       rewrite ! 18 (λ (z : Val). ‵ (fat full_share cursor-laws.mir l₆ 0 z)) (cursor_is c x cis) refl $
       sets ! (of_opd ! (part ! 20 0 refl refl refl)) 4 refl refl (tt, typed.1.0) $
       sets ! (agg ! (and_then ! (local ! 4 refl) (and_then ! (local ! 18 refl) (no_more !)))) 30 refl refl
-      (made-typed α 𝓛 r.bytes c fields.0 (cursor_told c x cis)) $ returns ! (look ! 30 refl) $ gone ! 30 refl refl $ gone ! 28 refl refl $
+      (made_typed α 𝓛 r.bytes c fields.0 (cursor_told c x cis)) $ returns ! (look ! 30 refl) $ gone ! 30 refl refl $ gone ! 28 refl refl $
       gone ! 26 refl refl $ gone ! 24 refl refl $ gone ! 22 refl refl $ gone ! 20 refl refl $ gone ! 18 refl refl $ gone ! 16 refl refl $
       gone ! 14 refl refl $ gone ! 12 refl refl $ gone ! 10 refl refl $ gone ! 8 refl refl $ gone ! 6 refl refl $ gone ! 4 refl refl $ free0 ! $
       suffices ! _ (leaves 𝓛 rec.ended (rec.clauses 𝓛 mem run) here _ (record { bytes = r.bytes; at = c }) (tt, (zs.1.1.1.0, (tt, (tt, tt))))

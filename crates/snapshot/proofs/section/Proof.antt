@@ -11,7 +11,7 @@ use denote.Struct.Laws as struct_laws
 use Rattle.snapshot.specs.HeapLayout.{HeapFills}
 use Rattle.reader.specs.declared.Reader.{Reader}
 use Rattle.reader.proofs.Carry.{cursor_val, slice_of, reader_val, IsCursor, cursor_is, cursor_told, cursor_makes, Bytes, parts_are}
-use Rattle.reader.proofs.Carry.{cursor-typed, reader-typed, made-typed, apart, together}
+use Rattle.reader.proofs.Carry.{cursor_typed, reader_typed, made_typed, apart, together}
 use Rattle.reader.proofs.Walk.{Ura, full_share, named, Val, SProp, ent, sep, emp, id⊢, Lft, Share, Fml, ftrue, fat, flft, Memory, Routine}
 use Rattle.reader.proofs.Walk.{Calls, Loops, WpFn, FmC, fm_of, sem, Fun, fact_i, tables, tables_of, ‵, raw, ◌⊛◌}
 use Rattle.reader.proofs.Walk.{◌$◌, ◌∵◌, !, qed, move, keep, drop, use1, use2, split, join, fsplit, fjoin, rewrite, suffices, frame, done}
@@ -77,14 +77,14 @@ module _ {M : Type 1} {𝓤 : Ura M} (𝓛 : Logic 𝓤) (mem : Memory → SProp
       → Triple 𝓤 (C Below-code.name) There → ent 𝓤 Start (WpFn 𝓤 H C Λ code.function (u ∷ b ∷ []) (Here.post here))
   walk is room long fm known =
       let parts = parts_are α d u is in
-      let typed = reader-typed α 𝓛 d u is in
+      let typed = reader_typed α 𝓛 d u is in
       let block = ((mut_slice_Lawful 𝓛 (named 1) μ u32).typed h (b ∷ []) room).0 in
       qed 𝓛 (raw Start ∷ []) ∵ enter ! C Λ code.function (u ∷ b ∷ []) _ $
       alloc1 !
       (λ l₀. alloc1 ! (λ l₁. alloc1 ! (λ l₂. alloc1 ! (λ l₃. alloc1 ! (λ l₄. alloc1 ! (λ l₅. alloc1 ! (λ l₆. alloc1 ! (λ l₇. alloc1 ! (λ l₈. alloc0 ! $
       params1 ! $ pass1 ! (init ! 14 refl typed) $ pass1 ! (init ! 12 refl block) $ pass0 ! $
       sets ! (of_opd ! (part ! 14 0 refl refl refl)) 8 refl refl (tt, typed.1.0) $
-      sets ! (of_opd ! (part ! 14 1 refl refl refl)) 6 refl refl (cursor-typed α 𝓛 d.at parts.1) $
+      sets ! (of_opd ! (part ! 14 1 refl refl refl)) 6 refl refl (cursor_typed α 𝓛 d.at parts.1) $
       sets ! (addr ! (from ! (fld ! refl (hop ! (look_in ! 12 (sub ! 0 refl (whole !))) (stop !))))) 4 refl refl (tt, tt) $
       sets ! (agg ! (and_then ! (local ! 4 refl) (and_then ! (part ! 12 1 refl refl refl) (no_more !)))) 2 refl refl (tt, block.1) $ move ! (18 ∷ []) $
       use1 𝓛 (raw (There.pre there) ⊛ ‵ Slice) (to_below parts.1 long) $ split ! $
@@ -98,7 +98,7 @@ module _ {M : Type 1} {𝓤 : Ura M} (𝓛 : Logic 𝓤) (mem : Memory → SProp
       land ! (from ! (stop !)) (init ! 14 refl ((enum_laws.lawful cursor.the_type cursor-laws.the_laws 𝓛 tt).typed c _ cis).0) $
       rewrite ! 14 (λ (z : Val). ‵ (fat full_share cursor-laws.mir l₃ 0 z)) (cursor_is c w cis) refl $
       sets ! (of_opd ! (part ! 18 0 refl refl refl)) 4 refl refl (tt, typed.1.0) $
-      sets ! (agg ! (and_then ! (local ! 4 refl) (and_then ! (local ! 14 refl) (no_more !)))) 20 refl refl (made-typed α 𝓛 d.bytes c parts.0 at) $
+      sets ! (agg ! (and_then ! (local ! 4 refl) (and_then ! (local ! 14 refl) (no_more !)))) 20 refl refl (made_typed α 𝓛 d.bytes c parts.0 at) $
       returns ! (look ! 20 refl) $ gone ! 20 refl refl $ gone ! 18 refl refl $ gone ! 16 refl refl $ gone ! 14 refl refl $ gone ! 12 refl refl $
       gone ! 10 refl refl $ gone ! 8 refl refl $ gone ! 6 refl refl $ gone ! 4 refl refl $ free0 ! $
       suffices ! _ (leaves 𝓛 section.ended (section.clauses 𝓛 mem run) here _ (record { bytes = d.bytes; at = c }) (tt, (ws.1.1.0, tt))

@@ -5,7 +5,7 @@ use Prim.Native.Nat.{◌-◌, ◌≤◌}
 use native.Mathlib.Omega.{arith}
 use lib.ListN.{length, get_or}
 use Rattle.words.proofs.Tabulate.{tabulate_get_d}
-use Rattle.walk.proofs.Arguments.{Written, written_none, written-more, written-take, written-counted}
+use Rattle.walk.proofs.Arguments.{Written, written_none, written_more, written_take, written_counted}
 use Rattle.walk.proofs.arguments_of.Statement.{statement}
 use Rattle.walk.proofs.arguments_of.Tie as tie
 
@@ -18,14 +18,14 @@ decreases-loop given arguments₀ i₀ arguments i = length given - i
 loop-again : tie.Need-loop-preserved invariant-loop decreases-loop
 loop-again c =
     let l = c.before.before.before in
-    (omega arith, written-more l.loop.invariant.1 (omega (arith, l.before.before.requires)) c.long.ensures.0 c.long.ensures.1)
+    (omega arith, written_more l.loop.invariant.1 (omega (arith, l.before.before.requires)) c.long.ensures.0 c.long.ensures.1)
 
 returns : tie.Need-returns invariant-loop decreases-loop
 returns c =
     let l = c.before in
     let given = l.before.before.args.given.now in
     let all : l.loop.i ≡ length given = omega arith in
-    (rw all at (written-take l.loop.invariant.1 (omega (arith, l.before.before.requires))) ∙ tabulate_get_d given 0, written-counted l.loop.invariant.1)
+    (rw all at (written_take l.loop.invariant.1 (omega (arith, l.before.before.requires))) ∙ tabulate_get_d given 0, written_counted l.loop.invariant.1)
 
 pub arguments-of-spec : {M : Type 1} → statement M
 arguments-of-spec =

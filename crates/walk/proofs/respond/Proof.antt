@@ -1,11 +1,11 @@
 -- `respond` asks whether the rule set is plain, and leaves the rest to `verdict`.
 use borrow.Author.Rules.{rules}
-use Rattle.walk.proofs.Verdicts.{rules-readable, refuses}
+use Rattle.walk.proofs.Verdicts.{rules_readable, refuses}
 use Rattle.walk.proofs.respond.Statement.{statement}
 use Rattle.walk.proofs.respond.Tie as tie
 
 plain-requires : tie.Need-plain-requires
-plain-requires c κs = let g = c.args in rules-readable g.rules.now g.heap.now g.query.now c.requires.0 c.requires.2
+plain-requires c κs = let g = c.args in rules_readable g.rules.now g.heap.now g.query.now c.requires.0 c.requires.2
 
 verdict-requires : tie.Need-verdict-requires
 verdict-requires c κs = let s : tie.Start = c.before.before in (s.requires.0, s.requires.1, s.requires.2, c.before.plain.ensures.so c.if1.true)

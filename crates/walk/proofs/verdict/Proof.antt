@@ -4,8 +4,8 @@ use mathlib.Core.Path.{◌∙◌}
 use native.Mathlib.Omega.{arith}
 use Rattle.words.proofs.Tabulate.{tabulate-length}
 use Rattle.block.specs.Layout.{query_count, query_value}
-use Rattle.block.proofs.{HeapInBlock.records_few, InputInBlock.valid, InputInBlock.values_few, InputInBlock.constants_few, InputInBlock.predicate-few}
-use Rattle.walk.proofs.Verdicts.{readable, named, verdict-fits, verdict-part, verdict-none}
+use Rattle.block.proofs.{HeapInBlock.records_few, InputInBlock.valid, InputInBlock.values_few, InputInBlock.constants_few, InputInBlock.predicate_few}
+use Rattle.walk.proofs.Verdicts.{readable, named, verdict_fits, verdict_part, verdict_none}
 use Rattle.walk.proofs.verdict.Statement.{statement}
 use Rattle.walk.proofs.verdict.Tie as tie
 
@@ -22,7 +22,7 @@ arguments-of-requires c κs =
 query-predicate-requires : tie.Need-query-predicate-requires
 query-predicate-requires c κs =
     let s : tie.Start = c.before.before in
-    omega (arith, predicate-few s.args.rules.now s.args.heap.now s.args.query.now s.requires.0)
+    omega (arith, predicate_few s.args.rules.now s.args.heap.now s.args.query.now s.requires.0)
 
 descend-requires : tie.Need-descend-requires
 descend-requires c κs =
@@ -48,7 +48,7 @@ returns c =
     let a : tie.After-arguments-of = w.before.before in
     let s : tie.Start = a.before.before in
     let g = s.args in
-    verdict-fits g.rules.now g.heap.now g.query.now s.requires.0 s.requires.3 (rw a.before.query_values_lem.ensures at a.arguments-of.ensures.0)
+    verdict_fits g.rules.now g.heap.now g.query.now s.requires.0 s.requires.3 (rw a.before.query_values_lem.ensures at a.arguments-of.ensures.0)
     (w.wide.ensures.0 ∙ w.before.query-predicate.ensures) d.descend.ensures (omega arith) c.before.before.before.if1.true
     ((rw c.before.before.record-count.ensures.0 at c.before.all-taken.ensures).so c.if2.true)
 
@@ -59,7 +59,7 @@ returns-2 c =
     let a : tie.After-arguments-of = w.before.before in
     let s : tie.Start = a.before.before in
     let g = s.args in
-    verdict-part g.rules.now g.heap.now g.query.now s.requires.0 s.requires.3 (rw a.before.query_values_lem.ensures at a.arguments-of.ensures.0)
+    verdict_part g.rules.now g.heap.now g.query.now s.requires.0 s.requires.3 (rw a.before.query_values_lem.ensures at a.arguments-of.ensures.0)
     (w.wide.ensures.0 ∙ w.before.query-predicate.ensures) d.descend.ensures (omega arith) c.before.before.before.if1.true
     ((rw c.before.before.record-count.ensures.0 at c.before.all-taken.ensures).not_so c.if2.false)
 
@@ -70,7 +70,7 @@ returns-3 c =
     let a : tie.After-arguments-of = w.before.before in
     let s : tie.Start = a.before.before in
     let g = s.args in
-    verdict-none g.rules.now g.heap.now g.query.now s.requires.0 s.requires.3 (rw a.before.query_values_lem.ensures at a.arguments-of.ensures.0)
+    verdict_none g.rules.now g.heap.now g.query.now s.requires.0 s.requires.3 (rw a.before.query_values_lem.ensures at a.arguments-of.ensures.0)
     (w.wide.ensures.0 ∙ w.before.query-predicate.ensures) d.descend.ensures (omega arith) c.if1.false
 
 pub verdict-spec : {M : Type 1} → statement M

@@ -1,7 +1,7 @@
 -- `walk` meets its contract: what the reader refuses is refused, and what it accepts `respond` answers.
 use borrow.Author.Rules.{rules}
 use native.Mathlib.Omega.{arith}
-use Rattle.formats.proofs.Answers.{is_accepted, well_formed, block-long, unread, answered}
+use Rattle.formats.proofs.Answers.{is_accepted, well_formed, block_long, unread, answered}
 use Rattle.walk.proofs.Verdicts.{constants_fit}
 use Rattle.walk.proofs.walk.Statement.{statement}
 use Rattle.walk.proofs.walk.Tie as tie
@@ -12,7 +12,7 @@ respond-requires c κs =
     let read = a.before.before.read.ensures in
     let question = a.before.before.before.before.before.before in (
       well_formed read a.enum_told.given.1,
-      block-long read a.enum_told.given.1,
+      block_long read a.enum_told.given.1,
       constants_fit _ _ _ _ _ _ (is_accepted (rw a.enum_told.given.1 at read)) (λ i. omega (arith, question.before.before.shared-slice-known.given i))
           (λ i. omega (arith, question.before.shared-slice-known2.given i)) (λ i. omega (arith, question.shared-slice-known3.given i)),
     )

@@ -4,7 +4,7 @@ use borrow.Author.Rules.{rules}
 use Rattle.block.specs.Layout.{term_as, fixed_in}
 use Rattle.reader.specs.Layout.{Any}
 use Rattle.reader.proofs.Keep.{stored, kept_none}
-use Rattle.book.proofs.Naming.{term-nil, term-var, no-var, term-constant, no-constant}
+use Rattle.book.proofs.Naming.{term-nil, term_var, no_var, term_constant, no_constant}
 use Rattle.book.proofs.parts.term.Statement.{statement}
 use Rattle.book.proofs.parts.term.Tie as tie
 
@@ -14,7 +14,7 @@ returns c =
     let a = s.args in
     let e = c.before.byte in
     stored (term_as (fixed_in a.given.now)) Any a.block.now a.at e.result.value s.requires.1
-    (term-var a.given.now a.s.now a.c _ a.n _ e.ensures c.if1.true s.requires.0) tt
+    (term_var a.given.now a.s.now a.c _ a.n _ e.ensures c.if1.true s.requires.0) tt
 
 returns-2 : tie.Need-returns-2
 returns-2 c =
@@ -29,7 +29,7 @@ returns-3 c =
     let e = c.before.before.before.before.byte in
     record {
       reads = rw c.stop.ensures
-          (no-var a.given.now a.s.now a.c _ a.n _ e.ensures c.before.before.if2.false c.before.if3.true c.before.before.before.if1.false _);
+          (no_var a.given.now a.s.now a.c _ a.n _ e.ensures c.before.before.if2.false c.before.if3.true c.before.before.before.if1.false _);
       sized = tt;
       kept = kept_none _ _ _;
     }
@@ -40,7 +40,7 @@ returns-4 c =
     let a = s.args in
     let e = c.before.before.before.before.before.byte in
     stored (term_as (fixed_in a.given.now)) Any a.block.now a.at _ s.requires.1
-    (term-constant a.given.now a.s.now a.c _ a.n _ e.ensures c.before.before.before.if2.false c.before.before.if3.false
+    (term_constant a.given.now a.s.now a.c _ a.n _ e.ensures c.before.before.before.if2.false c.before.before.if3.false
     (omega (arith, c.if4.true, c.before.constant-count.ensures))) tt
 
 returns-5 : tie.Need-returns-5
@@ -49,7 +49,7 @@ returns-5 c =
     let e = c.before.before.before.before.before.before.byte in
     record {
       reads = rw c.stop2.ensures
-          (no-constant a.given.now a.s.now a.c _ a.n _ e.ensures c.before.before.before.before.if2.false c.before.before.before.if3.false
+          (no_constant a.given.now a.s.now a.c _ a.n _ e.ensures c.before.before.before.before.if2.false c.before.before.before.if3.false
           (omega (arith, c.before.if4.false, c.before.before.constant-count.ensures)) _);
       sized = tt;
       kept = kept_none _ _ _;

@@ -3,7 +3,7 @@
 use Prim.Native.Nat.{suc, ◌-◌}
 use mathlib.Core.Logic.{⊎_elim}
 use native.Mathlib.Omega.{arith}
-use Rattle.builder.proofs.Gathering.{GatheredTo, gathered-all, gathered-free, gathered-more, line_low}
+use Rattle.builder.proofs.Gathering.{GatheredTo, gathered_all, gathered_free, gathered_more, line_low}
 use borrow.Author.Rules.{rules}
 use Rattle.builder.proofs.marked.gather.Statement.{statement}
 use Rattle.builder.proofs.marked.gather.Tie as tie
@@ -29,11 +29,11 @@ put-requires c κs =
 loop-again : tie.Need-loop-preserved invariant-loop decreases-loop
 loop-again c =
     let l = c.before.before.before.loop in
-    ⊎_elim (λ w. rw w.9 (gathered-more (entry c.before.before.before).pre.1 (omega arith) l.invariant (omega (arith, w.0.taken)) (rw (← w.5.ensures) w.6.ensures)))
-    (λ w. rw w.1 (gathered-free (entry c.before.before.before).pre.1 (omega arith) l.invariant (omega (arith, w.0.left)))) c.if1.branch
+    ⊎_elim (λ w. rw w.9 (gathered_more (entry c.before.before.before).pre.1 (omega arith) l.invariant (omega (arith, w.0.taken)) (rw (← w.5.ensures) w.6.ensures)))
+    (λ w. rw w.1 (gathered_free (entry c.before.before.before).pre.1 (omega arith) l.invariant (omega (arith, w.0.left)))) c.if1.branch
 
 returns : tie.Need-returns invariant-loop decreases-loop
-returns c = gathered-all c.before.before.before.before.requires.1 (omega arith) c.before.loop.invariant
+returns c = gathered_all c.before.before.before.before.requires.1 (omega arith) c.before.loop.invariant
 
 pub gather-spec : {M : Type 1} → statement M
 gather-spec =

@@ -6,7 +6,7 @@ use native.Mathlib.Omega.{arith}
 use lib.ListN.{length-map}
 use Rattle.semantics.specs.Tree.{value_of, values_of}
 use Rattle.block.specs.Layout.{call_in, call_place, call_predicate, call_arity}
-use Rattle.block.proofs.RuleInBlock.{terms-counted}
+use Rattle.block.proofs.RuleInBlock.{terms_counted}
 use Rattle.certificate.specs.Line.{given_by}
 use Rattle.certificate.proofs.Reading.{code-four}
 use Rattle.certificate.proofs.join.call_fact.Statement.{statement}
@@ -26,7 +26,7 @@ returns c =
     (omega (
       arith,
       length-map terms (value_of (given_by g.word)),
-      terms-counted g.rules.now (call_place g.rule g.c + 1) (call_arity g.rules.now g.rule g.c),
+      terms_counted g.rules.now (call_place g.rule g.c + 1) (call_arity g.rules.now g.rule g.c),
       s.requires.0.ready.call_arity_lem g.c s.requires.1,
     ))
     second.before.argument.ensures second.argument2.ensures fourth.before.argument3.ensures fourth.argument4.ensures

@@ -8,7 +8,7 @@ use Rattle.semantics.specs.{Certificate.fact_at, Fact.part_of}
 use Rattle.block.specs.Layout.{call_count}
 use Rattle.certificate.specs.Line.{given_by, CallsOf}
 use Rattle.words.proofs.{Answers.told_false, Answers.told_equal, Disjoint.sum_small}
-use Rattle.certificate.proofs.{Passing.CallsFrom, Passing.calls-step, Passing.calls-done}
+use Rattle.certificate.proofs.{Passing.CallsFrom, Passing.calls_step, Passing.calls_done}
 use Rattle.certificate.proofs.join.calls_join.Statement.{statement}
 use Rattle.certificate.proofs.join.calls_join.Tie as tie
 
@@ -33,7 +33,7 @@ start l = (counted l).before.before.before
 loop-holds : tie.Need-loop-init invariant-loop decreases-loop
 loop-holds c =
     let e = c.before.before.positions_at_lem.ensures in
-    (omega arith, omega arith, rw (c.rule-at.ensures, e) (λ p. p, λ p. p))
+    (omega arith, omega arith, rw (c.rule_at_lem.ensures, e) (λ p. p, λ p. p))
 
 returns : tie.Need-returns invariant-loop decreases-loop
 returns c =
@@ -42,7 +42,7 @@ returns c =
     told_false
     (λ p.
     c.before.calls-line.ensures.not_so c.if1.false
-    ((calls-step g.rules.now g.rule l.loop.c (omega (arith, (counted l).call-count.ensures))).0 (l.loop.invariant.2.0 p)).line)
+    ((calls_step g.rules.now g.rule l.loop.c (omega (arith, (counted l).call-count.ensures))).0 (l.loop.invariant.2.0 p)).line)
 
 fact-at-requires : tie.Need-fact-at-requires invariant-loop decreases-loop
 fact-at-requires c κs =
@@ -55,8 +55,8 @@ Part c =
     let l = at c in
     c.before.part_of_lem.result ≡ part_of (fact_at (start l).args.words.now (l.loop.lines % 65536))
 
-part-is : (c : tie.After-shares invariant-loop decreases-loop) → Part c
-part-is c = c.before.part_of_lem.ensures ∙ ap part_of c.before.before.fact_at_lem.ensures
+part_is : (c : tie.After-shares invariant-loop decreases-loop) → Part c
+part_is c = c.before.part_of_lem.ensures ∙ ap part_of c.before.before.fact_at_lem.ensures
 
 returns-2 : tie.Need-returns-2 invariant-loop decreases-loop
 returns-2 c =
@@ -64,8 +64,8 @@ returns-2 c =
     let g = (start l).args in
     told_false
     (λ p.
-    ((calls-step g.rules.now g.rule l.loop.c (omega (arith, (counted l).call-count.ensures))).0 (l.loop.inv.2.0 p)).disjoint
-    (rw (← part-is c.before) (c.before.shares.ensures.so c.if2.true)))
+    ((calls_step g.rules.now g.rule l.loop.c (omega (arith, (counted l).call-count.ensures))).0 (l.loop.inv.2.0 p)).disjoint
+    (rw (← part_is c.before) (c.before.shares.ensures.so c.if2.true)))
 
 -- joined to what is used, it stays small
 small : (c : tie.Else2 invariant-loop decreases-loop) → c.before.before.part_of_lem.result + (at c.before).loop.sum < 65536
@@ -80,12 +80,12 @@ loop-again c =
     let l = at c.before in
     let g = (start l).args in
     let h : l.loop.c < call_count g.rules.now g.rule = omega (arith, (counted l).call-count.ensures) in
-    let e : Part c.before = part-is c.before in (
+    let e : Part c.before = part_is c.before in (
       omega arith,
       small c,
       (
-        λ p. rw e ((calls-step g.rules.now g.rule l.loop.c h).0 (l.loop.inv.2.0 p)).rest,
-        λ p. l.loop.inv.2.1 ((calls-step g.rules.now g.rule l.loop.c h).1
+        λ p. rw e ((calls_step g.rules.now g.rule l.loop.c h).0 (l.loop.inv.2.0 p)).rest,
+        λ p. l.loop.inv.2.1 ((calls_step g.rules.now g.rule l.loop.c h).1
             (record { line = called.before.calls-line.ensures.so called.if1.true; disjoint = rw e at (c.before.shares.ensures.not_so c.if2.false); rest = rw e at p })),
       ),
     )
@@ -94,13 +94,13 @@ returns-3 : tie.Need-returns-3 invariant-loop decreases-loop
 returns-3 c =
     let l = c.before.before in
     let g = (start l).args in
-    told_false (λ p. c.if3.true ((calls-done g.rules.now g.rule l.loop.c (omega (arith, (counted l).call-count.ensures))).0 (l.loop.invariant.2.0 p)).0)
+    told_false (λ p. c.if3.true ((calls_done g.rules.now g.rule l.loop.c (omega (arith, (counted l).call-count.ensures))).0 (l.loop.invariant.2.0 p)).0)
 
 returns-4 : tie.Need-returns-4 invariant-loop decreases-loop
 returns-4 c =
     let l = c.before.before.before.before in
     let g = (start l).args in
-    let done = calls-done g.rules.now g.rule l.loop.c (omega (arith, (counted l).call-count.ensures)) in
+    let done = calls_done g.rules.now g.rule l.loop.c (omega (arith, (counted l).call-count.ensures)) in
     let e : c.part-of2.result ≡ part_of (fact_at g.words.now g.k) = c.part-of2.ensures ∙ ap part_of c.before.fact-at2.ensures in
     told_equal l.loop.sum c.part-of2.result
     (λ q. l.loop.invariant.2.1 (done.1 (c.before.before.if3.false, q ∙ e)))

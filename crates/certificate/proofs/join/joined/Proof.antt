@@ -8,7 +8,7 @@ use Rattle.semantics.specs.Tree.{asked}
 use Rattle.block.specs.Layout.{atom_in, atom_count, atom_place}
 use Rattle.certificate.specs.Line.{given_by, FirstRecord, CallsOf, JoinOf}
 use Rattle.words.proofs.{Answers.told_false, Answers.told_as, Disjoint.sum_small}
-use Rattle.certificate.proofs.Passing.{found_first, found_none, AtomsFrom, atoms-step, atoms-first, atoms-done}
+use Rattle.certificate.proofs.Passing.{found_first, found_none, AtomsFrom, atoms_step, atoms_first, atoms_done}
 use Rattle.certificate.proofs.join.joined.Statement.{statement}
 use Rattle.certificate.proofs.join.joined.Tie as tie
 
@@ -33,7 +33,7 @@ returns c =
     let s = (start l).args in
     told_false
     (λ p.
-    let (i, f) = (atoms-step s.rules.now s.rule l.loop.g (omega (arith, l.before.atom_count_lem.ensures))).0 (l.loop.invariant.2.0 p) in
+    let (i, f) = (atoms_step s.rules.now s.rule l.loop.g (omega (arith, l.before.atom_count_lem.ensures))).0 (l.loop.invariant.2.0 p) in
     found_none c.before.before.find-record.ensures (omega (arith, c.before.record-count.ensures, c.if1.true)) i f.takes)
 
 -- the record that the next atom takes
@@ -53,7 +53,7 @@ returns-2 c =
     let s = (start l).args in
     told_false
     (λ p.
-    (atoms-first s.rules.now s.rule l.loop.g (omega (arith, l.before.atom_count_lem.ensures)) (taken free) (l.loop.inv.2.0 p)).disjoint
+    (atoms_first s.rules.now s.rule l.loop.g (omega (arith, l.before.atom_count_lem.ensures)) (taken free) (l.loop.inv.2.0 p)).disjoint
     (rw (← c.before.before.bit.ensures) (c.before.shares.ensures.so c.if2.true)))
 
 -- joined to the records used, it stays small
@@ -72,8 +72,8 @@ loop-again c =
       omega arith,
       small c,
       (
-        λ p. rw e (atoms-first s.rules.now s.rule l.loop.g h (taken free) (l.loop.inv.2.0 p)).rest,
-        λ p. l.loop.inv.2.1 ((atoms-step s.rules.now s.rule l.loop.g h).1 (_, record { takes = taken free; disjoint = rw e at (c.before.shares.ensures.not_so c.if2.false); rest = rw e at p })),
+        λ p. rw e (atoms_first s.rules.now s.rule l.loop.g h (taken free) (l.loop.inv.2.0 p)).rest,
+        λ p. l.loop.inv.2.1 ((atoms_step s.rules.now s.rule l.loop.g h).1 (_, record { takes = taken free; disjoint = rw e at (c.before.shares.ensures.not_so c.if2.false); rest = rw e at p })),
       ),
     )
 
@@ -81,8 +81,8 @@ returns-3 : tie.Need-returns-3 invariant-loop decreases-loop
 returns-3 c =
     let l = c.before.before in
     let s = (start l).args in
-    let done = atoms-done s.rules.now s.rule l.loop.g (omega (arith, l.before.atom_count_lem.ensures)) in
-    told_as (λ p. l.loop.invariant.2.1 (done.1 p)) (λ p. done.0 (l.loop.invariant.2.0 p)) c.calls-join.ensures
+    let done = atoms_done s.rules.now s.rule l.loop.g (omega (arith, l.before.atom_count_lem.ensures)) in
+    told_as (λ p. l.loop.invariant.2.1 (done.1 p)) (λ p. done.0 (l.loop.invariant.2.0 p)) c.calls_join.ensures
 
 pub joined-spec : {M : Type 1} → statement M
 joined-spec =

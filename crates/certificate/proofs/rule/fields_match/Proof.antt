@@ -8,7 +8,7 @@ use Rattle.semantics.specs.Tree.{value_of}
 use Rattle.block.specs.Layout.{term_in}
 use Rattle.words.proofs.Answers.{told_true, told_false}
 use Rattle.certificate.specs.Line.{given_by}
-use Rattle.block.proofs.TermsInBlock.{fields-are}
+use Rattle.block.proofs.TermsInBlock.{fields_are}
 use Rattle.certificate.proofs.rule.fields_match.Statement.{statement}
 use Rattle.certificate.proofs.rule.fields_match.Tie as tie
 
@@ -29,13 +29,13 @@ returns c =
     told_false
     (λ p.
     c.if1.false
-    ((fields-are (λ v. v) g.rules.now (given_by g.word) g.terms g.count g.records.now g.fields).0 p l.loop.j (omega arith)
+    ((fields_are (λ v. v) g.rules.now (given_by g.word) g.terms g.count g.records.now g.fields).0 p l.loop.j (omega arith)
     ∙ sym c.before.position.ensures))
 
 returns-2 : tie.Need-returns-2 invariant-loop decreases-loop
 returns-2 c =
     let g = c.before.before.args in
-    told_true ((fields-are (λ v. v) g.rules.now (given_by g.word) g.terms g.count g.records.now g.fields).1 (λ j h. c.before.loop.invariant.1 j (omega arith)))
+    told_true ((fields_are (λ v. v) g.rules.now (given_by g.word) g.terms g.count g.records.now g.fields).1 (λ j h. c.before.loop.invariant.1 j (omega arith)))
 
 pub fields-match-spec : {M : Type 1} → statement M
 fields-match-spec =

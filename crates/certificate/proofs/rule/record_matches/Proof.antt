@@ -3,7 +3,7 @@ use borrow.Author.Rules.{rules}
 use mathlib.Core.Path.{◌∙◌, sym}
 use native.Mathlib.Omega.{arith}
 use Rattle.words.proofs.Answers.{told_false}
-use Rattle.block.proofs.TermsInBlock.{address-asked, size-asked, record-told}
+use Rattle.block.proofs.TermsInBlock.{address-asked, size_asked, record_told}
 use Rattle.certificate.specs.Line.{given_by}
 use Rattle.certificate.proofs.rule.record_matches.Statement.{statement}
 use Rattle.certificate.proofs.rule.record_matches.Tie as tie
@@ -25,7 +25,7 @@ returns-2 c =
     told_false
     (λ e.
     c.if2.true
-    (c.before.record-size.ensures.0 ∙ size-asked (λ v. v) g.rules.now g.rule g.g (given_by g.word) g.records.now g.i e
+    (c.before.record-size.ensures.0 ∙ size_asked (λ v. v) g.rules.now g.rule g.g (given_by g.word) g.records.now g.i e
     ∙ sym c.before.before.atom-size.ensures.0))
 
 fields-match-requires : tie.Need-fields-match-requires
@@ -41,7 +41,7 @@ returns-3 c =
     let sized : tie.After-atom-size = compared.before in
     let placed : tie.After-variable = sized.before.before in
     let g = placed.before.before.before.args in
-    record-told (λ v. v) g.rules.now g.rule g.g (given_by g.word) g.records.now g.i
+    record_told (λ v. v) g.rules.now g.rule g.g (given_by g.word) g.records.now g.i
     (sym placed.before.before.record-address.ensures ∙ sized.before.if1.false ∙ rw placed.before.atom_address_lem.ensures at placed.variable.ensures)
     (sym compared.record-size.ensures.0 ∙ c.before.before.before.if2.false ∙ sized.atom-size.ensures.0)
     (rw (c.before.record-fields.ensures, c.before.before.atom-fields.ensures, sized.atom-size.ensures.0) at c.fields-match.ensures)

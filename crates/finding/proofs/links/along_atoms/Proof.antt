@@ -7,7 +7,7 @@ use Rattle.block.specs.Layout.{atom_count}
 use Rattle.block.specs.Ready.{variables_in}
 use Rattle.finding.specs.Values.{Counted}
 use Rattle.finding.specs.Links.{AtomHas, AtomClosed, AlongAtomsAs}
-use Rattle.finding.proofs.Learning.{along-none, along-more}
+use Rattle.finding.proofs.Learning.{along_none, along_more}
 use Rattle.finding.proofs.Fields.{atom_stays}
 use Rattle.finding.proofs.links.along_atoms.Statement.{statement}
 use Rattle.finding.proofs.links.along_atoms.Tie as tie
@@ -25,7 +25,7 @@ loop-holds c =
     let rules = s.args.rules.now in
     let rule = s.args.rule in
     let heap = s.args.heap.now in
-    (omega arith, λ value. along-none (variables_in rules rule) (AtomHas value rules rule heap) (AtomClosed rules rule heap) s.args.values.now, s.requires.2)
+    (omega arith, λ value. along_none (variables_in rules rule) (AtomHas value rules rule heap) (AtomClosed rules rule heap) s.args.values.now, s.requires.2)
 
 along-atom-requires : tie.Need-along-atom-requires invariant-loop decreases-loop
 along-atom-requires c κs =
@@ -41,7 +41,7 @@ loop-again c =
     let rule = s.args.rule in
     let heap = s.args.heap.now in (
       omega arith,
-      λ value. along-more (variables_in rules rule) (AtomHas value rules rule heap) (AtomClosed rules rule heap) (atom_stays rules rule heap) l.loop.g s.args.values.now
+      λ value. along_more (variables_in rules rule) (AtomHas value rules rule heap) (AtomClosed rules rule heap) (atom_stays rules rule heap) l.loop.g s.args.values.now
           l.loop.values c.along-atom.new.1.1.1.1.0 (l.loop.invariant.1 value) (c.along-atom.ensures.0 value),
       c.along-atom.ensures.1,
     )

@@ -4,10 +4,10 @@ use native.Mathlib.Omega.{arith}
 use borrow.Author.Rules.{rules}
 use Rattle.semantics.specs.Tree.{value_of}
 use Rattle.block.specs.Layout.{term_as, fixed_in, pure_kind, pure_left, pure_right}
-use Rattle.block.proofs.Scopes.{formed-left, formed-right}
+use Rattle.block.proofs.Scopes.{formed_left, formed_right}
 use Rattle.block.specs.Ready.{variables_in}
-use Rattle.finding.proofs.{Learning.along_still, Known.valued-small}
-use Rattle.finding.proofs.Equalities.{along-right, along-left}
+use Rattle.finding.proofs.{Learning.along_still, Known.valued_small}
+use Rattle.finding.proofs.Equalities.{along_right, along_left}
 use Rattle.finding.proofs.links.along_pure.Statement.{statement}
 use Rattle.finding.proofs.links.along_pure.Tie as tie
 
@@ -20,13 +20,13 @@ returns c =
 entry-requires : tie.Need-entry-requires
 entry-requires c κs =
     let s : tie.Start = c.before.before.before.before.before in
-    (rw c.before.before.pure_left_lem.ensures (formed-left s.requires.0 s.args.k s.requires.1), s.requires.3)
+    (rw c.before.before.pure_left_lem.ensures (formed_left s.requires.0 s.args.k s.requires.1), s.requires.3)
 
 learn-requires : tie.Need-learn-requires
 learn-requires c κs =
     let right : tie.After-pure-right = c.before.before.before.before in
     let s : tie.Start = right.before.before.before.before in
-    (rw right.pure_right_lem.ensures (formed-right s.requires.0 s.args.k s.requires.1), c.before.if2.true, s.requires.2)
+    (rw right.pure_right_lem.ensures (formed_right s.requires.0 s.args.k s.requires.1), c.before.if2.true, s.requires.2)
 
 -- what was read of each side is its value
 left_is : (c : tie.After-entry)
@@ -45,7 +45,7 @@ returns-2 c =
     let s : tie.Start = right.before.before.before.before in
     let g = s.args in
     let is = left_is x in (
-      along-right (fixed_in g.given.now) g.rules.now g.rule g.k s.requires.0 s.requires.1 (omega (arith, right.before.before.before.pure-kind.ensures, right.before.before.if1.false))
+      along_right (fixed_in g.given.now) g.rules.now g.rule g.k s.requires.0 s.requires.1 (omega (arith, right.before.before.before.pure-kind.ensures, right.before.before.if1.false))
           s.requires.2.eight (omega (arith, is, c.before.before.if2.true)) (rw (is, right.pure_right_lem.ensures) at c.learn.ensures.0),
       c.learn.ensures.1,
     )
@@ -54,13 +54,13 @@ entry-requires-2 : tie.Need-entry-requires-2
 entry-requires-2 c κs =
     let right : tie.After-pure-right = c.before.before.before.before in
     let s : tie.Start = right.before.before.before.before in
-    (rw right.pure_right_lem.ensures (formed-right s.requires.0 s.args.k s.requires.1), s.requires.3)
+    (rw right.pure_right_lem.ensures (formed_right s.requires.0 s.args.k s.requires.1), s.requires.3)
 
 learn-requires-2 : tie.Need-learn-requires-2
 learn-requires-2 c κs =
     let left : tie.After-pure-left = c.before.before.before.before.before.before.before.before in
     let s : tie.Start = left.before.before.before in
-    (rw left.pure_left_lem.ensures (formed-left s.requires.0 s.args.k s.requires.1), c.before.if3.true, s.requires.2)
+    (rw left.pure_left_lem.ensures (formed_left s.requires.0 s.args.k s.requires.1), c.before.if3.true, s.requires.2)
 
 returns-3 : tie.Need-returns-3
 returns-3 c =
@@ -69,7 +69,7 @@ returns-3 c =
     let s : tie.Start = right.before.before.before.before in
     let g = s.args in
     let is = right_is y in (
-      along-left (fixed_in g.given.now) g.rules.now g.rule g.k s.requires.0 s.requires.1 (omega (arith, right.before.before.before.pure-kind.ensures, right.before.before.if1.false))
+      along_left (fixed_in g.given.now) g.rules.now g.rule g.k s.requires.0 s.requires.1 (omega (arith, right.before.before.before.pure-kind.ensures, right.before.before.if1.false))
           s.requires.2.eight (omega (arith, is, c.before.before.if3.true)) (rw (is, right.before.pure_left_lem.ensures) at c.learn2.ensures.0),
       c.learn2.ensures.1,
     )
@@ -78,7 +78,7 @@ returns-4 : tie.Need-returns-4
 returns-4 c =
     let x : tie.After-entry = c.before.before.before.before in
     let s : tie.Start = x.before.before.before.before.before.before in
-    let small = valued-small s.args.values.now (variables_in s.args.rules.now s.args.rule) (fixed_in s.args.given.now) s.requires.0.ready.variables_few in (
+    let small = valued_small s.args.values.now (variables_in s.args.rules.now s.args.rule) (fixed_in s.args.given.now) s.requires.0.ready.variables_few in (
       along_still (record {
         to_right = λ e v. absurd (omega (arith, left_is x, c.before.before.before.if2.false, small _ (s.requires.0.ready.pure_left_lem s.args.k s.requires.1) v));
         to_left = λ e v. absurd (omega (arith, right_is c.before, c.if3.false, small _ (s.requires.0.ready.pure_right_lem s.args.k s.requires.1) v));

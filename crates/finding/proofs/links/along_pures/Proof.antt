@@ -7,7 +7,7 @@ use Rattle.block.specs.Layout.{pure_count, fixed_in}
 use Rattle.block.specs.Ready.{variables_in}
 use Rattle.finding.specs.Values.{Counted}
 use Rattle.finding.specs.Links.{PureMet, PureClosed, AlongEach}
-use Rattle.finding.proofs.Learning.{along-none, along-more}
+use Rattle.finding.proofs.Learning.{along_none, along_more}
 use Rattle.finding.proofs.Equalities.{pure_stays}
 use Rattle.finding.proofs.links.along_pures.Statement.{statement}
 use Rattle.finding.proofs.links.along_pures.Tie as tie
@@ -24,7 +24,7 @@ loop-holds c =
     let s : tie.Start invariant-loop decreases-loop = c.before in
     let rules = s.args.rules.now in
     let rule = s.args.rule in
-    (omega arith, along-none (variables_in rules rule) (PureMet (fixed_in s.args.given.now) rules rule) (PureClosed rules rule) s.args.values.now, s.requires.1)
+    (omega arith, along_none (variables_in rules rule) (PureMet (fixed_in s.args.given.now) rules rule) (PureClosed rules rule) s.args.values.now, s.requires.1)
 
 along-pure-requires : tie.Need-along-pure-requires invariant-loop decreases-loop
 along-pure-requires c κs =
@@ -38,7 +38,7 @@ loop-again c =
     let rules = s.args.rules.now in
     let rule = s.args.rule in (
       omega arith,
-      along-more (variables_in rules rule) (PureMet (fixed_in s.args.given.now) rules rule) (PureClosed rules rule) (pure_stays rules rule) l.loop.k s.args.values.now
+      along_more (variables_in rules rule) (PureMet (fixed_in s.args.given.now) rules rule) (PureClosed rules rule) (pure_stays rules rule) l.loop.k s.args.values.now
           l.loop.values c.along-pure.new.1.1.1.0 l.loop.invariant.1 c.along-pure.ensures.0,
       c.along-pure.ensures.1,
     )

@@ -5,7 +5,7 @@ use native.Mathlib.Omega.{arith}
 use borrow.Author.Rules.{rules}
 use Rattle.finding.specs.Values.{Counted}
 use Rattle.finding.specs.Links.{FieldIs, FieldKnown, AlongFields}
-use Rattle.finding.proofs.Learning.{learnt_along, along-none, along-more}
+use Rattle.finding.proofs.Learning.{learnt_along, along_none, along_more}
 use Rattle.finding.proofs.Fields.{field_stays}
 use Rattle.finding.proofs.links.learn_fields.Statement.{statement}
 use Rattle.finding.proofs.links.learn_fields.Tie as tie
@@ -20,7 +20,7 @@ decreases-loop rules terms heap i count values₀ unknown left₀ j₀ values le
 loop-holds : tie.Need-loop-init invariant-loop decreases-loop
 loop-holds c =
     let g = c.args in
-    (omega arith, λ value n. along-none n (FieldIs value g.rules.now g.terms g.heap.now g.i) (FieldKnown g.rules.now g.terms) g.values.now, c.requires.3)
+    (omega arith, λ value n. along_none n (FieldIs value g.rules.now g.terms g.heap.now g.i) (FieldKnown g.rules.now g.terms) g.values.now, c.requires.3)
 
 learn-requires : tie.Need-learn-requires invariant-loop decreases-loop
 learn-requires c κs =
@@ -33,7 +33,7 @@ loop-again c =
     let g = l.before.args in (
       omega arith,
       λ value n.
-          along-more n (FieldIs value g.rules.now g.terms g.heap.now g.i) (FieldKnown g.rules.now g.terms) (field_stays g.rules.now g.terms)
+          along_more n (FieldIs value g.rules.now g.terms g.heap.now g.i) (FieldKnown g.rules.now g.terms) (field_stays g.rules.now g.terms)
           l.loop.j g.values.now l.loop.values c.learn.new.0 (l.loop.invariant.1 value n)
           (learnt_along value l.loop.invariant.2.eight (omega (arith, c.before.field.ensures)) (rw c.before.field.ensures.0 at c.learn.ensures.0) n),
       c.learn.ensures.1,

@@ -7,7 +7,7 @@ use Rattle.semantics.specs.Formats.{query, read_query}
 use Rattle.block.specs.Layout.{query_place}
 use Rattle.book.specs.BookLayout.{arities_in}
 use Rattle.reader.proofs.Finishing.{finish_is}
-use Rattle.formats.proofs.QueryParts.{query-fills, query-kept, query_long}
+use Rattle.formats.proofs.QueryParts.{query_fills, query_kept, query_long}
 use borrow.Author.Rules.{rules}
 use Rattle.formats.proofs.question.read_query.Statement.{statement}
 use Rattle.formats.proofs.question.read_query.Tie as tie
@@ -43,8 +43,8 @@ returns c =
       is =
           rw c.finish.ensures
           (finish_is 9 (query (arities_in s.args.rules.now))
-          (query-fills q x.result k.result s.pre.2 first refl values s.pre.0 d.below.ensures c.before.before.before.before.before.ranged.ensures refl x.ensures.0 k.ensures.0));
-      kept = query-kept q x.result k.result s.pre.2 first refl values;
+          (query_fills q x.result k.result s.pre.2 first refl values s.pre.0 d.below.ensures c.before.before.before.before.before.ranged.ensures refl x.ensures.0 k.ensures.0));
+      kept = query_kept q x.result k.result s.pre.2 first refl values;
       long = query_long q x.result k.result s.pre.2 first refl values;
     }
 

@@ -4,10 +4,10 @@ use mathlib.Core.{Path.◌≡◌, Logic.◌≢◌, Logic.⊎_elim}
 use Prim.Native.Nat.{◌-◌, ◌≤◌}
 use native.Mathlib.Omega.{arith}
 use Rattle.block.specs.Layout.{fixed_in, pure_count, pure_kind}
-use Rattle.block.proofs.Scopes.{formed-left, formed-right}
+use Rattle.block.proofs.Scopes.{formed_left, formed_right}
 use Rattle.words.proofs.Answers.{told_true, told_false}
 use Rattle.plain.specs.Classes.{entries_of, UnequalsMet}
-use Rattle.plain.proofs.Conditions.{entries-apart, entries_same}
+use Rattle.plain.proofs.Conditions.{entries_apart, entries_same}
 use Rattle.plain.proofs.classes.apart.Statement.{statement}
 use Rattle.plain.proofs.classes.apart.Tie as tie
 
@@ -24,13 +24,13 @@ entry-requires : tie.Need-entry-requires invariant-loop decreases-loop
 entry-requires c κs =
     let l : tie.At-loop invariant-loop decreases-loop = c.before.before.before.before in
     let s : tie.Start invariant-loop decreases-loop = l.before.before in
-    (rw c.pure_left_lem.ensures (formed-left s.requires.0 l.loop.k (omega (arith, l.before.pure-count.ensures.0, c.before.before.before.loop-test.true))), s.requires.1)
+    (rw c.pure_left_lem.ensures (formed_left s.requires.0 l.loop.k (omega (arith, l.before.pure-count.ensures.0, c.before.before.before.loop-test.true))), s.requires.1)
 
 entry-requires-2 : tie.Need-entry-requires-2 invariant-loop decreases-loop
 entry-requires-2 c κs =
     let l : tie.At-loop invariant-loop decreases-loop = c.before.before.before.before.before.before in
     let s : tie.Start invariant-loop decreases-loop = l.before.before in
-    (rw c.pure_right_lem.ensures (formed-right s.requires.0 l.loop.k (omega (arith, l.before.pure-count.ensures.0, c.before.before.before.before.before.loop-test.true))), s.requires.1)
+    (rw c.pure_right_lem.ensures (formed_right s.requires.0 l.loop.k (omega (arith, l.before.pure-count.ensures.0, c.before.before.before.before.before.loop-test.true))), s.requires.1)
 
 returns : tie.Need-returns invariant-loop decreases-loop
 returns c =
@@ -51,7 +51,7 @@ loop-again c =
       below_more _ _ l.loop.invariant.1
           (⊎_elim
           (λ w.
-          entries-apart g.given.now g.rules.now g.rule g.shared l.loop.k w.1.ensures w.3.ensures g.classes.now w.2.ensures w.4.ensures
+          entries_apart g.given.now g.rules.now g.rule g.shared l.loop.k w.1.ensures w.3.ensures g.classes.now w.2.ensures w.4.ensures
           w.5.left)
           (λ w n. absurd (omega (arith, n, c.before.pure-kind.ensures, w.left)))
           c.if1.branch),

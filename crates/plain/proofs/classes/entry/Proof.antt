@@ -4,7 +4,7 @@ use mathlib.Core.{Path.◌∙◌, Logic.⊎_elim}
 use native.Mathlib.Omega.{arith}
 use Rattle.block.specs.Layout.{fixed_in}
 use Rattle.plain.specs.Classes.{entries_of}
-use Rattle.plain.proofs.Seats.{entry-shared, entry-own, entry_fixed}
+use Rattle.plain.proofs.Seats.{entry_shared, entry_own, entry_fixed}
 use Rattle.plain.proofs.classes.entry.Statement.{statement}
 use Rattle.plain.proofs.classes.entry.Tie as tie
 
@@ -14,7 +14,7 @@ element-copy-out-result c = ⊎_elim (λ l. omega arith) (λ g. absurd (omega (a
 returns : tie.Need-returns
 returns c =
     let g = c.before.before.before.args in
-    entry-shared (fixed_in g.given.now) g.shared (entries_of g.classes.now) g.term c.before.before.if1.true c.before.if2.true
+    entry_shared (fixed_in g.given.now) g.shared (entries_of g.classes.now) g.term c.before.before.if1.true c.before.if2.true
 
 element-copy-out-result-2 : tie.Need-element-copy-out-result-2
 element-copy-out-result-2 c = ⊎_elim (λ l. omega arith) (λ g. absurd (omega (arith, c.before.if1.true))) c.before.before.requires.0
@@ -22,7 +22,7 @@ element-copy-out-result-2 c = ⊎_elim (λ l. omega arith) (λ g. absurd (omega 
 returns-2 : tie.Need-returns-2
 returns-2 c =
     let g = c.before.before.before.args in
-    entry-own (fixed_in g.given.now) g.shared (entries_of g.classes.now) g.term c.before.before.if1.true c.before.if2.false
+    entry_own (fixed_in g.given.now) g.shared (entries_of g.classes.now) g.term c.before.before.if1.true c.before.if2.false
 
 returns-3 : tie.Need-returns-3
 returns-3 c =

@@ -6,7 +6,7 @@ use native.Mathlib.Omega.{arith}
 use lib.ListN.{length}
 use Rattle.block.specs.Layout.{fixed_in, pure_count}
 use Rattle.plain.specs.Classes.{EqualMet, EqualsMet, Merged}
-use Rattle.plain.proofs.Merging.{MergedTo, merged-more, merged-never}
+use Rattle.plain.proofs.Merging.{MergedTo, merged_more, merged_never}
 use Rattle.plain.proofs.classes.merge.Statement.{statement}
 use Rattle.plain.proofs.classes.merge.Tie as tie
 
@@ -32,7 +32,7 @@ loop-again c =
     let g = l.before.before.args in (
       omega arith,
       c.before.merge-pure.ensures.1,
-      merged-more {Met = EqualsMet (fixed_in g.given.now) g.rules.now g.rule g.shared l.loop.k} {Next = EqualMet (fixed_in g.given.now) g.rules.now g.rule g.shared l.loop.k}
+      merged_more {Met = EqualsMet (fixed_in g.given.now) g.rules.now g.rule g.shared l.loop.k} {Next = EqualMet (fixed_in g.given.now) g.rules.now g.rule g.shared l.loop.k}
           {All = EqualsMet (fixed_in g.given.now) g.rules.now g.rule g.shared (l.loop.k + 1)}
           (λ σ a j h. a j (omega arith)) (λ σ a. a l.loop.k (omega arith)) l.loop.invariant.2 (λ σ m n. below_more _ _ m n) c.if1.true c.before.merge-pure.ensures.0,
     )
@@ -42,7 +42,7 @@ returns c =
     let l : tie.At-loop invariant-loop decreases-loop = c.before.before.before.before in
     let g = l.before.before.args in (
       Merged.never refl
-          (merged-never {Met = EqualsMet (fixed_in g.given.now) g.rules.now g.rule g.shared l.loop.k} {Next = EqualMet (fixed_in g.given.now) g.rules.now g.rule g.shared l.loop.k}
+          (merged_never {Met = EqualsMet (fixed_in g.given.now) g.rules.now g.rule g.shared l.loop.k} {Next = EqualMet (fixed_in g.given.now) g.rules.now g.rule g.shared l.loop.k}
           {All = EqualsMet (fixed_in g.given.now) g.rules.now g.rule g.shared (pure_count g.rules.now g.rule)}
           (λ σ a j h. a j (omega (arith, l.before.pure-count.ensures.0))) (λ σ a. a l.loop.k (omega (arith, l.before.pure-count.ensures.0))) l.loop.invariant.2 c.if1.false c.before.merge-pure.ensures.0),
       c.before.merge-pure.ensures.1,

@@ -1,8 +1,8 @@
 -- `merge_pure` joins the entries of the two sides of an equality; another condition merges nothing.
 use borrow.Author.Rules.{rules}
 use native.Mathlib.Omega.{arith}
-use Rattle.block.proofs.Scopes.{formed-left, formed-right}
-use Rattle.plain.proofs.{Merging.merged_still, Conditions.equality-merged}
+use Rattle.block.proofs.Scopes.{formed_left, formed_right}
+use Rattle.plain.proofs.{Merging.merged_still, Conditions.equality_merged}
 use Rattle.plain.proofs.classes.merge_pure.Statement.{statement}
 use Rattle.plain.proofs.classes.merge_pure.Tie as tie
 
@@ -12,12 +12,12 @@ returns c = (merged_still (λ σ e. absurd (omega (arith, c.before.pure-kind.ens
 entry-requires : tie.Need-entry-requires
 entry-requires c κs =
     let s : tie.Start = c.before.before.before.before in
-    (rw c.pure_left_lem.ensures (formed-left s.requires.0 s.args.k s.requires.1), s.requires.2)
+    (rw c.pure_left_lem.ensures (formed_left s.requires.0 s.args.k s.requires.1), s.requires.2)
 
 entry-requires-2 : tie.Need-entry-requires-2
 entry-requires-2 c κs =
     let s : tie.Start = c.before.before.before.before.before.before.before in
-    (rw c.pure_right_lem.ensures (formed-right s.requires.0 s.args.k s.requires.1), s.requires.2)
+    (rw c.pure_right_lem.ensures (formed_right s.requires.0 s.args.k s.requires.1), s.requires.2)
 
 returns-2 : tie.Need-returns-2
 returns-2 c =
@@ -25,7 +25,7 @@ returns-2 c =
     let x : tie.After-entry = y.before.before.before in
     let s : tie.Start = x.before.before.before.before.before in
     let g = s.args in (
-      equality-merged g.given.now g.rules.now g.rule g.shared g.k x.before.pure_left_lem.ensures y.before.pure_right_lem.ensures g.classes.now
+      equality_merged g.given.now g.rules.now g.rule g.shared g.k x.before.pure_left_lem.ensures y.before.pure_right_lem.ensures g.classes.now
           x.entry.ensures y.entry2.ensures s.requires.0 s.requires.1 (omega (arith, x.before.before.before.before.pure-kind.ensures, x.before.before.before.if1.false)) c.join.ensures.0,
       c.join.ensures.1,
     )

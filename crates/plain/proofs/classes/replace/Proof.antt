@@ -3,7 +3,7 @@ use borrow.Author.Rules.{rules}
 use mathlib.Core.{Path.refl, Logic.⊎_elim}
 use Prim.Native.Nat.{◌-◌, ◌≤◌}
 use native.Mathlib.Omega.{arith}
-use Rattle.plain.proofs.Stores.{ReplacedTo, replaced-hit, replaced-miss}
+use Rattle.plain.proofs.Stores.{ReplacedTo, replaced_hit, replaced_miss}
 use Rattle.plain.proofs.classes.replace.Statement.{statement}
 use Rattle.plain.proofs.classes.replace.Tie as tie
 
@@ -22,8 +22,8 @@ loop-again c =
     let g = c.before.before.before.before.args in (
       omega arith,
       ⊎_elim
-          (λ w. rw w.1 (replaced-hit g.x g.y g.classes.now l.classes l.i l.invariant.1 (omega arith) w.0.taken))
-          (λ w. rw w.1 (replaced-miss g.x g.y g.classes.now l.classes l.i l.invariant.1 w.0.left))
+          (λ w. rw w.1 (replaced_hit g.x g.y g.classes.now l.classes l.i l.invariant.1 (omega arith) w.0.taken))
+          (λ w. rw w.1 (replaced_miss g.x g.y g.classes.now l.classes l.i l.invariant.1 w.0.left))
           c.if1.branch,
     )
 

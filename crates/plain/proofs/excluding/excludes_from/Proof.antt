@@ -7,11 +7,11 @@ use native.Mathlib.{Omega.arith, Decide.ℕ_discrete}
 use Rattle.semantics.specs.{RuleSet.rule_of, RuleSet.RuleSet, Plain.Exclude}
 use Rattle.words.proofs.Answers.{told_true, told_false}
 use Rattle.block.specs.Layout.{rule_set_read, fixed_in, constants_in, rule_count, rule_place, pure_count}
-use Rattle.block.proofs.RuleAs.{rules-are}
+use Rattle.block.proofs.RuleAs.{rules_are}
 use Rattle.plain.specs.Classes.{EqualsMet, SideMet}
 use Rattle.plain.specs.Plain.{RulePlace, ExcludesFrom}
 use Rattle.plain.proofs.{Merging.fresh_follows, Merging.fresh_merged, Merging.merged_not, Overlapping.unmet_alone}
-use Rattle.plain.proofs.{Passing.ExcludesWithin, Passing.excludes_more, Places.place_of, Places.placed, Places.exclude-at, Exclusion.unmet-excluded}
+use Rattle.plain.proofs.{Passing.ExcludesWithin, Passing.excludes_more, Places.place_of, Places.placed, Places.exclude_at, Exclusion.unmet_excluded}
 use Rattle.plain.proofs.excluding.excludes_from.Statement.{statement}
 use Rattle.plain.proofs.excluding.excludes_from.Tie as tie
 
@@ -25,18 +25,18 @@ rule-place-requires : tie.Need-rule-place-requires invariant-loop decreases-loop
 rule-place-requires c κs = omega (arith, c.rule-count.ensures)
 
 -- the rule's own place
-own-place : (c : tie.After-rule-place invariant-loop decreases-loop) → let g = c.before.before.args in RulePlace g.given.now g.rules.now c.rule-place.result
-own-place c = let s : tie.Start invariant-loop decreases-loop = c.before.before in placed s.requires.0 s.args.r c.rule-place.result s.requires.1 c.rule-place.ensures
+own_place : (c : tie.After-rule-place invariant-loop decreases-loop) → let g = c.before.before.args in RulePlace g.given.now g.rules.now c.rule-place.result
+own_place c = let s : tie.Start invariant-loop decreases-loop = c.before.before in placed s.requires.0 s.args.r c.rule-place.result s.requires.1 c.rule-place.ensures
 
 merge-requires : tie.Need-merge-requires invariant-loop decreases-loop
 merge-requires c κs =
     let p : tie.After-rule-place invariant-loop decreases-loop = c.before.before in
-    ((own-place p).formed, p.before.before.requires.0.constants_few, c.before.fresh.ensures.long)
+    ((own_place p).formed, p.before.before.requires.0.constants_few, c.before.fresh.ensures.long)
 
 apart-requires : tie.Need-apart-requires invariant-loop decreases-loop
 apart-requires c κs =
     let p : tie.After-rule-place invariant-loop decreases-loop = c.before.before.before.before.before in
-    ((own-place p).formed, p.before.before.requires.0.constants_few)
+    ((own_place p).formed, p.before.before.requires.0.constants_few)
 
 loop-holds : tie.Need-loop-init invariant-loop decreases-loop
 loop-holds c =
@@ -58,7 +58,7 @@ excludes-requires c κs =
     let s : tie.Start invariant-loop decreases-loop = p.before.before in
     let g = s.args in (
       s.requires.0,
-      own-place p,
+      own_place p,
       placed s.requires.0 l.loop.other c.before.rule-place2.result (omega (arith, p.before.rule-count.ensures.0, c.before.before.loop-test.true)) c.before.rule-place2.ensures,
       fresh_merged {Met = EqualsMet (fixed_in g.given.now) g.rules.now p.rule-place.result 8 (pure_count g.rules.now p.rule-place.result)}
           m.before.before.fresh.ensures l.before.before.before.before.if1.true m.merge.ensures.0,
@@ -75,7 +75,7 @@ loop-again c =
       omega (arith, l.loop.invariant.0),
       omega arith,
       excludes_more (rule_set_read g.given.now g.rules.now) g.r g.first l.loop.other
-          (rw (← exclude-at s.requires.0 g.r l.loop.other p.rule-place.result c.before.before.before.rule-place2.result s.requires.1 below p.rule-place.ensures c.before.before.before.rule-place2.ensures)
+          (rw (← exclude_at s.requires.0 g.r l.loop.other p.rule-place.result c.before.before.before.rule-place2.result s.requires.1 below p.rule-place.ensures c.before.before.before.rule-place2.ensures)
           (c.before.excludes.ensures.so c.if3.true))
           l.loop.invariant.2,
     )
@@ -88,8 +88,8 @@ returns c =
     let g = s.args in
     let below : l.loop.other < rule_count g.rules.now = omega (arith, p.before.rule-count.ensures.0, c.before.before.before.before.loop-test.true) in
     told_false (λ all. c.before.excludes.ensures.not_so c.if3.false
-    (rw (exclude-at s.requires.0 g.r l.loop.other p.rule-place.result c.before.before.before.rule-place2.result s.requires.1 below p.rule-place.ensures c.before.before.before.rule-place2.ensures)
-    (all l.loop.other l.loop.invariant.0 (omega (arith, rules-are (fixed_in g.given.now) (constants_in g.given.now) g.rules.now)))))
+    (rw (exclude_at s.requires.0 g.r l.loop.other p.rule-place.result c.before.before.before.rule-place2.result s.requires.1 below p.rule-place.ensures c.before.before.before.rule-place2.ensures)
+    (all l.loop.other l.loop.invariant.0 (omega (arith, rules_are (fixed_in g.given.now) (constants_in g.given.now) g.rules.now)))))
 
 returns-2 : tie.Need-returns-2 invariant-loop decreases-loop
 returns-2 c =
@@ -97,7 +97,7 @@ returns-2 c =
     let p : tie.After-rule-place invariant-loop decreases-loop = l.before.before.before.before.before.before.before.before in
     let g = p.before.before.args in
     told_true (λ j low high. l.loop.invariant.2 j low
-    (omega (arith, high, rules-are (fixed_in g.given.now) (constants_in g.given.now) g.rules.now, p.before.rule-count.ensures.0, c.loop-test.false)))
+    (omega (arith, high, rules_are (fixed_in g.given.now) (constants_in g.given.now) g.rules.now, p.before.rule-count.ensures.0, c.loop-test.false)))
 
 -- a rule that nothing meets
 unmet : (p : tie.After-rule-place invariant-loop decreases-loop)
@@ -107,9 +107,9 @@ unmet : (p : tie.After-rule-place invariant-loop decreases-loop)
 unmet p never j low high =
     let s : tie.Start invariant-loop decreases-loop = p.before.before in
     let g = s.args in
-    let below : j < rule_count g.rules.now = omega (arith, high, rules-are (fixed_in g.given.now) (constants_in g.given.now) g.rules.now) in
-    rw (← exclude-at s.requires.0 g.r j p.rule-place.result (rule_place j) s.requires.1 below p.rule-place.ensures refl)
-    (unmet-excluded s.requires.0 (own-place p) (place_of s.requires.0 j below) never)
+    let below : j < rule_count g.rules.now = omega (arith, high, rules_are (fixed_in g.given.now) (constants_in g.given.now) g.rules.now) in
+    rw (← exclude_at s.requires.0 g.r j p.rule-place.result (rule_place j) s.requires.1 below p.rule-place.ensures refl)
+    (unmet_excluded s.requires.0 (own_place p) (place_of s.requires.0 j below) never)
 
 returns-3 : tie.Need-returns-3 invariant-loop decreases-loop
 returns-3 c =
@@ -119,7 +119,7 @@ returns-3 c =
     let g = p.before.before.args in
     told_true
     (unmet p
-    (unmet_alone g.given.now g.rules.now p.rule-place.result (own-place p).formed _
+    (unmet_alone g.given.now g.rules.now p.rule-place.result (own_place p).formed _
     (fresh_merged {Met = EqualsMet (fixed_in g.given.now) g.rules.now p.rule-place.result 8 (pure_count g.rules.now p.rule-place.result)}
     m.before.before.fresh.ensures one.if1.true m.merge.ensures.0)
     (c.before.apart.ensures.not_so c.if2.false)))

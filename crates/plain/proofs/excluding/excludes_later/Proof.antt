@@ -4,9 +4,9 @@ use Prim.Native.Nat.{ℕ, ◌+◌, ◌-◌, ◌≤◌, ◌<◌}
 use native.Mathlib.Omega.{arith}
 use Rattle.words.proofs.Answers.{told_true, told_as}
 use Rattle.block.specs.Layout.{rule_set_read, fixed_in, constants_in, rule_count}
-use Rattle.block.proofs.RuleAs.{rules-are}
+use Rattle.block.proofs.RuleAs.{rules_are}
 use Rattle.plain.specs.Plain.{RulePlace, ExcludesFrom}
-use Rattle.plain.proofs.{Passing.ExcludesWithin, Passing.excludes_more, Passing.excludes_rest, Places.placed, Places.exclude-at, Exclusion.parted-excluded}
+use Rattle.plain.proofs.{Passing.ExcludesWithin, Passing.excludes_more, Passing.excludes_rest, Places.placed, Places.exclude_at, Exclusion.parted_excluded}
 use Rattle.plain.proofs.excluding.excludes_later.Statement.{statement}
 use Rattle.plain.proofs.excluding.excludes_later.Tie as tie
 
@@ -28,8 +28,8 @@ rule-place-requires-2 : tie.Need-rule-place-requires-2 invariant-loop decreases-
 rule-place-requires-2 c κs = omega (arith, c.before.before.before.rule-count.ensures)
 
 -- the rule's own place, and that of the rule that is passed
-own-place : (c : tie.After-rule-place invariant-loop decreases-loop) → let g = c.before.before.args in RulePlace g.given.now g.rules.now c.rule-place.result
-own-place c = let s : tie.Start invariant-loop decreases-loop = c.before.before in placed s.requires.0 s.args.r c.rule-place.result s.requires.1 c.rule-place.ensures
+own_place : (c : tie.After-rule-place invariant-loop decreases-loop) → let g = c.before.before.args in RulePlace g.given.now g.rules.now c.rule-place.result
+own_place c = let s : tie.Start invariant-loop decreases-loop = c.before.before in placed s.requires.0 s.args.r c.rule-place.result s.requires.1 c.rule-place.ensures
 
 below : (c : tie.After-rule-place2 invariant-loop decreases-loop) → let l = c.before.before in l.loop.other < rule_count l.before.before.before.args.rules.now
 below c = omega (arith, c.before.before.before.before.rule-count.ensures.0, c.before.loop-test.true)
@@ -42,7 +42,7 @@ other_place c =
 
 parted-requires : tie.Need-parted-requires invariant-loop decreases-loop
 parted-requires c κs =
-    let own = (own-place c.before.before.before).formed in
+    let own = (own_place c.before.before.before).formed in
     (own.inside, (other_place c).formed.inside, own.ready.pures_few)
 
 loop-again : tie.Need-loop-preserved invariant-loop decreases-loop
@@ -55,8 +55,8 @@ loop-again c =
       omega (arith, l.loop.invariant.0),
       omega arith,
       excludes_more (rule_set_read g.given.now g.rules.now) g.r (g.r + 1) l.loop.other
-          (rw (← exclude-at s.requires.0 g.r l.loop.other p.rule-place.result o.rule-place2.result s.requires.1 (below o) p.rule-place.ensures o.rule-place2.ensures)
-          (parted-excluded s.requires.0 (own-place p) (other_place o) c.before.parted.ensures c.if1.true))
+          (rw (← exclude_at s.requires.0 g.r l.loop.other p.rule-place.result o.rule-place2.result s.requires.1 (below o) p.rule-place.ensures o.rule-place2.ensures)
+          (parted_excluded s.requires.0 (own_place p) (other_place o) c.before.parted.ensures c.if1.true))
           l.loop.invariant.2,
     )
 
@@ -79,7 +79,7 @@ returns-2 c =
     let l : tie.At-loop invariant-loop decreases-loop = c.before in
     let g = l.before.before.before.args in
     told_true (λ j low high. l.loop.invariant.2 j (omega arith)
-    (omega (arith, high, rules-are (fixed_in g.given.now) (constants_in g.given.now) g.rules.now, l.before.before.rule-count.ensures.0, c.loop-test.false)))
+    (omega (arith, high, rules_are (fixed_in g.given.now) (constants_in g.given.now) g.rules.now, l.before.before.rule-count.ensures.0, c.loop-test.false)))
 
 pub excludes-later-spec : {M : Type 1} → statement M
 excludes-later-spec =

@@ -5,7 +5,7 @@ use Prim.Native.Nat.{ℕ}
 use Rattle.block.specs.Layout.{fixed_in, head_arity, pure_count}
 use Rattle.words.proofs.Answers.{told_false, told_as}
 use Rattle.plain.specs.Classes.{entries_of, EqualsMet, UnequalsMet, Merged}
-use Rattle.plain.proofs.{Merging.MergedTo, Merging.merged_done, Merging.merged_not, Overlapping.never-overlap, Overlapping.first-apart, Overlapping.second-apart, Overlapping.overlaps}
+use Rattle.plain.proofs.{Merging.MergedTo, Merging.merged_done, Merging.merged_not, Overlapping.never_overlap, Overlapping.first_apart, Overlapping.second_apart, Overlapping.overlaps}
 use Rattle.plain.proofs.excluding.overlap.Statement.{statement}
 use Rattle.plain.proofs.excluding.overlap.Tie as tie
 
@@ -41,7 +41,7 @@ returns c =
     told_as {P = Second (fixed_in g.given.now) g.rules.now g.other m.before.before.before.head_arity_lem.result m.merge.new.1.1.1.0}
     (λ two. overlaps g.given.now g.rules.now g.rule g.other s.requires.0 s.requires.1 g.classes.now m.merge.new.1.1.1.0 s.requires.3 both
     (c.before.before.before.apart.ensures.so c.before.before.if2.true) (rw arity at two))
-    (λ w. rw arity (second-apart g.given.now g.rules.now g.rule g.other s.requires.0 s.requires.1 g.classes.now m.merge.new.1.1.1.0 s.requires.3 both w))
+    (λ w. rw arity (second_apart g.given.now g.rules.now g.rule g.other s.requires.0 s.requires.1 g.classes.now m.merge.new.1.1.1.0 s.requires.3 both w))
     c.apart2.ensures
 
 returns-2 : tie.Need-returns-2
@@ -50,7 +50,7 @@ returns-2 c =
     let s : tie.Start = m.before.before.before.before in
     let g = s.args in
     told_false (λ w. c.before.apart.ensures.not_so c.if2.false
-    (first-apart g.given.now g.rules.now g.rule g.other s.requires.0 s.requires.1 g.classes.now m.merge.new.1.1.1.0 s.requires.3 (merged m c.before.before.before.if1.true) w))
+    (first_apart g.given.now g.rules.now g.rule g.other s.requires.0 s.requires.1 g.classes.now m.merge.new.1.1.1.0 s.requires.3 (merged m c.before.before.before.if1.true) w))
 
 returns-3 : tie.Need-returns-3
 returns-3 c =
@@ -58,7 +58,7 @@ returns-3 c =
     let s : tie.Start = m.before.before.before.before in
     let g = s.args in
     told_false
-    (never-overlap g.given.now g.rules.now g.rule g.other s.requires.0 s.requires.1 g.classes.now m.merge.new.1.1.1.0 s.requires.3
+    (never_overlap g.given.now g.rules.now g.rule g.other s.requires.0 s.requires.1 g.classes.now m.merge.new.1.1.1.0 s.requires.3
     (merged_not c.if1.false (by-arity m)))
 
 pub overlap-spec : {M : Type 1} → statement M

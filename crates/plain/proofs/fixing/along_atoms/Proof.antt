@@ -4,10 +4,10 @@ use mathlib.Core.Path.{◌≡◌}
 use Prim.Native.Nat.{◌-◌, ◌≤◌, ◌<◌}
 use native.Mathlib.Omega.{arith}
 use Rattle.block.specs.Layout.{atom_count}
-use Rattle.block.proofs.Scopes.{formed-address, formed-fields}
+use Rattle.block.proofs.Scopes.{formed_address, formed_fields}
 use Rattle.finding.specs.Values.{Counted}
 use Rattle.plain.specs.Fixing.{AlongEach, AtomClosed}
-use Rattle.plain.proofs.Links.{along-none, along-more, along-fields, atom_stays}
+use Rattle.plain.proofs.Links.{along_none, along_more, along_fields, atom_stays}
 use Rattle.plain.proofs.fixing.along_atoms.Statement.{statement}
 use Rattle.plain.proofs.fixing.along_atoms.Tie as tie
 
@@ -20,15 +20,15 @@ decreases-loop rules rule values₀ unknown count left₀ g₀ values left g = c
 loop-holds : tie.Need-loop-init invariant-loop decreases-loop
 loop-holds c =
     let s : tie.Start invariant-loop decreases-loop = c.before in
-    (omega arith, along-none s.args.rules.now s.args.rule (AtomClosed s.args.rules.now s.args.rule) s.args.values.now, s.requires.1)
+    (omega arith, along_none s.args.rules.now s.args.rule (AtomClosed s.args.rules.now s.args.rule) s.args.values.now, s.requires.1)
 
 pass-requires : tie.Need-pass-requires invariant-loop decreases-loop
 pass-requires c κs =
     let l : tie.At-loop invariant-loop decreases-loop = c.before.before.before.before.before in
     let s : tie.Start invariant-loop decreases-loop = l.before.before in
     let below : l.loop.g < atom_count s.args.rules.now s.args.rule = omega (arith, l.before.atom_count_lem.ensures.0, c.before.before.before.before.loop-test.true) in (
-      rw c.before.before.before.atom_address_lem.ensures (formed-address s.requires.0 l.loop.g below),
-      rw c.before.before.atom-fields.ensures (formed-fields s.requires.0 l.loop.g _ below c.before.atom-size.ensures.0),
+      rw c.before.before.before.atom_address_lem.ensures (formed_address s.requires.0 l.loop.g below),
+      rw c.before.before.atom-fields.ensures (formed_fields s.requires.0 l.loop.g _ below c.before.atom-size.ensures.0),
       omega (arith, c.before.atom-size.ensures.0, s.requires.0.ready.atom_count_lem l.loop.g below),
       l.loop.invariant.2,
     )
@@ -40,8 +40,8 @@ loop-again c =
     let a = s.args in
     let after = c.pass.new.1.1.1.1.0 in (
       omega arith,
-      along-more a.rules.now a.rule (AtomClosed a.rules.now a.rule) (atom_stays a.rules.now a.rule) l.loop.g a.values.now l.loop.values after l.loop.invariant.1
-          (along-fields s.requires.0 l.loop.g (omega (arith, l.before.atom_count_lem.ensures.0, c.before.before.before.before.before.loop-test.true)) _ _ _
+      along_more a.rules.now a.rule (AtomClosed a.rules.now a.rule) (atom_stays a.rules.now a.rule) l.loop.g a.values.now l.loop.values after l.loop.invariant.1
+          (along_fields s.requires.0 l.loop.g (omega (arith, l.before.atom_count_lem.ensures.0, c.before.before.before.before.before.loop-test.true)) _ _ _
           c.before.before.before.before.atom_address_lem.ensures c.before.before.before.atom-fields.ensures c.before.before.atom-size.ensures.0 l.loop.values after c.pass.ensures.0),
       c.pass.ensures.1,
     )

@@ -6,9 +6,9 @@ use native.Mathlib.Omega.{arith}
 use lib.ListN.{get_or}
 use Rattle.block.specs.Layout.{pure_kind, pure_count, pure_place, pure_left, pure_right}
 use Rattle.block.specs.Ready.{Scoped, Terms}
-use Rattle.block.proofs.Scopes.{formed-left, formed-right}
+use Rattle.block.proofs.Scopes.{formed_left, formed_right}
 use Rattle.finding.specs.Values.{Shaped}
-use Rattle.plain.proofs.Links.{along-other, along-both}
+use Rattle.plain.proofs.Links.{along_other, along_both}
 use Rattle.plain.proofs.fixing.along_pure.Statement.{statement}
 use Rattle.plain.proofs.fixing.along_pure.Tie as tie
 
@@ -29,16 +29,16 @@ returns c =
     let s : tie.Start = c.before.before in
     let g = s.args in
     let other : pure_kind g.rules.now g.rule g.k ≢ 0 = λ e. omega (arith, c.before.pure-kind.ensures, c.if1.true) in
-    (along-other s.requires.0 g.k s.requires.1 other g.values.now, s.requires.2)
+    (along_other s.requires.0 g.k s.requires.1 other g.values.now, s.requires.2)
 
 pass-requires : tie.Need-pass-requires
 pass-requires c κs =
     let s : tie.Start = c.before.before.before.before.before in
     let g = s.args in
     let place = c.before.before.pure-terms.ensures in (
-      rw c.before.pure_left_lem.ensures (formed-left s.requires.0 g.k s.requires.1),
+      rw c.before.pure_left_lem.ensures (formed_left s.requires.0 g.k s.requires.1),
       one-term s.requires.0 g.k _ (pure_right g.rules.now g.rule g.k) s.requires.1 (omega (arith, place)) (right-place g.rules.now g.rule g.k _ place)
-          (formed-right s.requires.0 g.k s.requires.1),
+          (formed_right s.requires.0 g.k s.requires.1),
       omega arith,
       s.requires.2,
     )
@@ -48,9 +48,9 @@ pass-requires-2 c κs =
     let s : tie.Start = c.before.before.before.before.before.before.before.before in
     let g = s.args in
     let place = c.before.before.before.before.before.pure-terms.ensures in (
-      rw c.before.pure_right_lem.ensures (formed-right s.requires.0 g.k s.requires.1),
+      rw c.before.pure_right_lem.ensures (formed_right s.requires.0 g.k s.requires.1),
       one-term s.requires.0 g.k _ (pure_left g.rules.now g.rule g.k) s.requires.1 (omega (arith, place)) (ap (λ (j : ℕ). get_or g.rules.now j 0) place)
-          (formed-left s.requires.0 g.k s.requires.1),
+          (formed_left s.requires.0 g.k s.requires.1),
       omega arith,
       c.before.before.pass.ensures.1,
     )
@@ -61,7 +61,7 @@ returns-2 c =
     let terms : tie.After-pure-terms = p.before.before.before in
     let s : tie.Start = terms.before.before.before in
     let g = s.args in (
-      along-both s.requires.0 g.k s.requires.1 (omega (arith, terms.before.before.pure-kind.ensures, terms.before.if1.false)) _ _ _ p.before.before.pure_left_lem.ensures
+      along_both s.requires.0 g.k s.requires.1 (omega (arith, terms.before.before.pure-kind.ensures, terms.before.if1.false)) _ _ _ p.before.before.pure_left_lem.ensures
           c.before.before.pure_right_lem.ensures terms.pure-terms.ensures g.values.now p.pass.new.1.1.1.1.0 c.pass2.new.1.1.1.1.0 p.pass.ensures.0 c.pass2.ensures.0,
       c.pass2.ensures.1,
     )

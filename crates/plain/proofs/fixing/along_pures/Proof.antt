@@ -7,7 +7,7 @@ use Rattle.block.specs.Layout.{pure_count}
 use Rattle.finding.specs.{Values.Counted, Links.PureClosed}
 use Rattle.finding.proofs.Equalities.{pure_stays}
 use Rattle.plain.specs.Fixing.{AlongEach}
-use Rattle.plain.proofs.Links.{along-none, along-more}
+use Rattle.plain.proofs.Links.{along_none, along_more}
 use Rattle.plain.proofs.fixing.along_pures.Statement.{statement}
 use Rattle.plain.proofs.fixing.along_pures.Tie as tie
 
@@ -20,7 +20,7 @@ decreases-loop rules rule values₀ unknown count left₀ k₀ values left k = c
 loop-holds : tie.Need-loop-init invariant-loop decreases-loop
 loop-holds c =
     let s : tie.Start invariant-loop decreases-loop = c.before in
-    (omega arith, along-none s.args.rules.now s.args.rule (PureClosed s.args.rules.now s.args.rule) s.args.values.now, s.requires.1)
+    (omega arith, along_none s.args.rules.now s.args.rule (PureClosed s.args.rules.now s.args.rule) s.args.values.now, s.requires.1)
 
 along-pure-requires : tie.Need-along-pure-requires invariant-loop decreases-loop
 along-pure-requires c κs =
@@ -32,7 +32,7 @@ loop-again c =
     let l : tie.At-loop invariant-loop decreases-loop = c.before.before.before in
     let g = l.before.before.args in (
       omega arith,
-      along-more g.rules.now g.rule (PureClosed g.rules.now g.rule) (pure_stays g.rules.now g.rule) l.loop.k g.values.now l.loop.values
+      along_more g.rules.now g.rule (PureClosed g.rules.now g.rule) (pure_stays g.rules.now g.rule) l.loop.k g.values.now l.loop.values
           c.along-pure.new.1.1.1.0 l.loop.invariant.1 c.along-pure.ensures.0,
       c.along-pure.ensures.1,
     )

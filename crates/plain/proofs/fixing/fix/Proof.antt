@@ -5,7 +5,7 @@ use Prim.Native.Nat.{◌-◌, ◌≤◌}
 use native.Mathlib.Omega.{arith}
 use Rattle.finding.specs.Values.{Counted}
 use Rattle.plain.specs.Fixing.{Given}
-use Rattle.plain.proofs.Links.{given_none, given-more}
+use Rattle.plain.proofs.Links.{given_none, given_more}
 use Rattle.plain.proofs.fixing.fix.Statement.{statement}
 use Rattle.plain.proofs.fixing.fix.Tie as tie
 
@@ -28,7 +28,7 @@ loop-again c =
     let l : tie.At-loop invariant-loop decreases-loop = c.before.before.before.before in
     let g = l.before.args in (
       omega arith,
-      given-more g.rules.now g.terms l.loop.j g.values.now l.loop.values c.learn.new.0 l.loop.invariant.1 l.loop.invariant.2.eight c.learn.ensures.0,
+      given_more g.rules.now g.terms l.loop.j g.values.now l.loop.values c.learn.new.0 l.loop.invariant.1 l.loop.invariant.2.eight c.learn.ensures.0,
       c.learn.ensures.1,
     )
 

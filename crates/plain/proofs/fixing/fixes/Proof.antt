@@ -6,7 +6,7 @@ use Rattle.words.proofs.Answers.{told_true, told_false}
 use Rattle.finding.specs.{Values.opens, Values.Counted, Links.Keeps}
 use Rattle.finding.proofs.{Opens.opens_kept, Learning.keeps_then}
 use Rattle.plain.specs.Fixing.{Sound}
-use Rattle.plain.proofs.Links.{turn-keeps, still-turn, begins-sound, not-all-fixed, all_marked}
+use Rattle.plain.proofs.Links.{turn_keeps, still_turn, begins_sound, not_all_fixed, all_marked}
 use Rattle.plain.proofs.fixing.fixes.Statement.{statement}
 use Rattle.plain.proofs.fixing.fixes.Tie as tie
 
@@ -23,7 +23,7 @@ begin-requires c κs = (c.before.requires, record { eight = refl; is = refl })
 loop-holds : tie.Need-loop-init invariant-loop decreases-loop
 loop-holds c =
     let g = c.before.before.args in
-    (begins-sound g.rules.now g.rule c.begin.new.1.1.0 c.begin.ensures.0, λ v h. refl, c.begin.ensures.1)
+    (begins_sound g.rules.now g.rule c.begin.new.1.1.0 c.begin.ensures.0, λ v h. refl, c.begin.ensures.1)
 
 along-pures-requires : tie.Need-along-pures-requires invariant-loop decreases-loop
 along-pures-requires c κs = (c.before.before.before.before.before.requires, c.before.before.loop.invariant.2)
@@ -44,7 +44,7 @@ after c = c.along-atoms.new.1.1.0
 keeps : (c : tie.After-along-atoms invariant-loop decreases-loop) → Keeps (at c).loop.values (after c)
 keeps c =
     let g = (at c).before.before.before.args in
-    turn-keeps g.rules.now g.rule (at c).loop.values (middle c) (after c) c.before.before.along-pures.ensures.0 c.along-atoms.ensures.0
+    turn_keeps g.rules.now g.rule (at c).loop.values (middle c) (after c) c.before.before.along-pures.ensures.0 c.along-atoms.ensures.0
 
 returns : tie.Need-returns invariant-loop decreases-loop
 returns c =
@@ -55,8 +55,8 @@ returns c =
     let counted = t.along-atoms.ensures.1 in
     let first = l.before.begin.last.1.1.0 in
     told_false
-    (not-all-fixed g.rules.now g.rule first l.before.begin.ensures.0 (after t) (keeps_then first l.loop.values (after t) l.loop.inv.1 (keeps t))
-    (still-turn g.rules.now g.rule l.loop.values (middle t) (after t) t.before.before.along-pures.ensures.0 t.along-atoms.ensures.0
+    (not_all_fixed g.rules.now g.rule first l.before.begin.ensures.0 (after t) (keeps_then first l.loop.values (after t) l.loop.inv.1 (keeps t))
+    (still_turn g.rules.now g.rule l.loop.values (middle t) (after t) t.before.before.along-pures.ensures.0 t.along-atoms.ensures.0
     (omega (arith, counted.eight, l.loop.inv.2.eight)) (omega (arith, counted.is, l.loop.inv.2.is, c.if1.true)))
     s.pre.ready.variables_few (λ e. omega (arith, counted.is, c.if1.true, t.before.before.before.before.loop-test.true)))
 

@@ -7,8 +7,8 @@ use denote.Struct.Laws as struct_laws
 use Rattle.semantics.specs.Reader.{word as wordReader}
 use Rattle.reader.specs.Cursor.{Yields}
 use Rattle.reader.specs.declared.{Number.Number, Reader.Reader, Word.Word}
-use Rattle.reader.proofs.Carry.{cursor_val, slice_of, reader_val, IsCursor, cursor_makes, Bytes, IsBytes, parts_are, cursor-typed}
-use Rattle.reader.proofs.Carry.{reader-typed, apart}
+use Rattle.reader.proofs.Carry.{cursor_val, slice_of, reader_val, IsCursor, cursor_makes, Bytes, IsBytes, parts_are, cursor_typed}
+use Rattle.reader.proofs.Carry.{reader_typed, apart}
 use Rattle.reader.proofs.Walk.{Ura, full_share, w8, w32, Val, vint, SProp, ent, sep, emp, id⊢, Lft, Share, Fml, ftrue, fat, flft}
 use Rattle.reader.proofs.Walk.{Memory, Routine, Calls, Loops, WpFn, FmC, fm_of, sem, Fun, fact_i, tables}
 use Rattle.reader.proofs.Walk.{tables_of, ‵, raw, ◌⊛◌, ◌$◌, ◌∵◌, !, qed, move, keep, use1, split, join, fsplit, fjoin, rewrite}
@@ -74,12 +74,12 @@ module _ {M : Type 1} {𝓤 : Ura M} (𝓛 : Logic 𝓤) (mem : Memory → SProp
   walk : IsBytes α d.bytes → IsCursor d.at → Is (reader.the_row α) d (u ∷ []) → short < 2 ^ 8 → FmC 𝓤 H 𝓛.laws C → Triple 𝓤 (C Below-code.name) There
       → ent 𝓤 Start (WpFn 𝓤 H C Λ code.function (u ∷ vint w8 short ∷ []) (Here.post here))
   walk p c is small fm known =
-      let typed = reader-typed α 𝓛 d u is in
+      let typed = reader_typed α 𝓛 d u is in
       qed 𝓛 (raw Start ∷ []) ∵ enter ! C Λ code.function (u ∷ vint w8 short ∷ []) _ $
       alloc1 ! (λ l₀. alloc1 ! (λ l₁. alloc1 ! (λ l₂. alloc1 ! (λ l₃. alloc1 ! (λ l₄. alloc1 ! (λ l₅. alloc1 ! (λ l₆. alloc0 ! $ params1 ! $
       pass1 ! (init ! 10 refl typed) $ pass1 ! (init ! 8 refl (tt, record { fits = small })) $ pass0 ! $
       sets ! (of_opd ! (part ! 10 0 refl refl refl)) 4 refl refl (tt, typed.1.0) $
-      sets ! (of_opd ! (part ! 10 1 refl refl refl)) 2 refl refl (cursor-typed α 𝓛 d.at c) $ move ! (14 ∷ []) $
+      sets ! (of_opd ! (part ! 10 1 refl refl refl)) 2 refl refl (cursor_typed α 𝓛 d.at c) $ move ! (14 ∷ []) $
       use1 𝓛 (raw (There.pre there) ⊛ ‵ Slice) (to_below c) $ split ! $
       -- [the call; the slice; room for _6; …; _5; …; _4; …; room for _3; …; _2; …; _1; …; room for _0; …]
       calls_at ! fm There known there (and_then ! (local ! 6 refl) (and_then ! (local ! 4 refl) (and_then ! (local ! 10 refl) (no_more !))))

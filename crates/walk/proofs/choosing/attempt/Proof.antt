@@ -4,7 +4,7 @@ use mathlib.Core.Path.{◌≡◌, refl}
 use native.Mathlib.Omega.{arith}
 use Rattle.block.specs.Layout.{head_in}
 use Rattle.walk.specs.Walk.Attempts.{nothing}
-use Rattle.walk.proofs.Trying.{not-served, not_found, not-met-values, attempts-take}
+use Rattle.walk.proofs.Trying.{not_served, not_found, not_met_values, attempts_take}
 use Rattle.walk.proofs.choosing.attempt.Statement.{statement}
 use Rattle.walk.proofs.choosing.attempt.Tie as tie
 
@@ -26,7 +26,7 @@ returns c =
     let f : tie.After-find = c.before.before.before.before.before.before in
     let v : tie.After-wide = f.before.before.before.before in
     let s : tie.Start = v.before.before in
-    attempts-take s.requires.0 s.requires.1 (served v f.before.before.before.if1.true) s.requires.2 f.find.ensures.0
+    attempts_take s.requires.0 s.requires.1 (served v f.before.before.before.if1.true) s.requires.2 f.find.ensures.0
     (record { eight = f.find.ensures.1.eight; is = omega (arith, f.find.ensures.1.is, c.before.before.before.before.before.if2.true) }) (c.before.before.before.pures-hold.ensures.so c.before.before.if3.true) c.take.ensures
 
 returns-2 : tie.Need-returns-2
@@ -35,7 +35,7 @@ returns-2 c =
     let v : tie.After-wide = f.before.before.before.before in
     let s : tie.Start = v.before.before in
     nothing refl
-    (not-met-values s.requires.0 s.requires.1 (served v f.before.before.before.if1.true) s.requires.2 f.find.ensures.0
+    (not_met_values s.requires.0 s.requires.1 (served v f.before.before.before.if1.true) s.requires.2 f.find.ensures.0
     (record { eight = f.find.ensures.1.eight; is = omega (arith, f.find.ensures.1.is, c.before.before.before.if2.true) }) (c.before.pures-hold.ensures.not_so c.if3.false))
 
 returns-3 : tie.Need-returns-3
@@ -52,7 +52,7 @@ returns-4 c =
     let v : tie.After-wide = c.before in
     let s : tie.Start = v.before.before in
     let g = s.args in
-    nothing refl (not-served s.requires.1 g.heap.now g.arguments.now (λ e. omega (arith, e, v.wide.ensures.0, v.before.head.ensures, c.if1.false)))
+    nothing refl (not_served s.requires.1 g.heap.now g.arguments.now (λ e. omega (arith, e, v.wide.ensures.0, v.before.head.ensures, c.if1.false)))
 
 pub attempt-spec : {M : Type 1} → statement M
 attempt-spec =

@@ -8,7 +8,7 @@ use Rattle.block.proofs.RuleAs.{rule-number}
 use Rattle.walk.specs.Walk.{NotChosen}
 use Rattle.walk.specs.Walk.Chooses.{chosen, nothing}
 use Rattle.plain.proofs.Places.{place_of}
-use Rattle.walk.proofs.Trying.{attempt-chosen, attempt-nothing}
+use Rattle.walk.proofs.Trying.{attempt_chosen, attempt_nothing}
 use Rattle.walk.proofs.choosing.choose.Statement.{statement}
 use Rattle.walk.proofs.choosing.choose.Tie as tie
 
@@ -27,13 +27,13 @@ attempt-requires c κs =
     (s.requires.0, rw c.before.rule-place.ensures (place_of s.requires.0.rules_read l.loop.r (omega (arith, l.before.rule-count.ensures.0))), s.requires.2)
 
 returns : tie.Need-returns invariant-loop decreases-loop
-returns c = chosen refl (attempt-chosen c.before.attempt.ensures c.if1.true)
+returns c = chosen refl (attempt_chosen c.before.attempt.ensures c.if1.true)
 
 loop-again : tie.Need-loop-preserved invariant-loop decreases-loop
 loop-again c =
     let p : tie.After-rule-place invariant-loop decreases-loop = c.before.before.before in
     let l : tie.At-loop invariant-loop decreases-loop = p.before.before in
-    (omega arith, below_more _ _ l.loop.invariant.1 (rw p.rule-place.ensures at (attempt-nothing c.before.attempt.ensures c.if1.false)))
+    (omega arith, below_more _ _ l.loop.invariant.1 (rw p.rule-place.ensures at (attempt_nothing c.before.attempt.ensures c.if1.false)))
 
 returns-2 : tie.Need-returns-2 invariant-loop decreases-loop
 returns-2 c =

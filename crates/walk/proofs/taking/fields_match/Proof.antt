@@ -7,7 +7,7 @@ use lib.ListN.{get_or}
 use Rattle.semantics.specs.Tree.{value_of}
 use Rattle.words.proofs.Answers.{told_true, told_false}
 use Rattle.block.specs.Layout.{term_as, fixed_in, record_field, record_place}
-use Rattle.block.proofs.TermsInBlock.{fields-are}
+use Rattle.block.proofs.TermsInBlock.{fields_are}
 use Rattle.walk.proofs.taking.fields_match.Statement.{statement}
 use Rattle.walk.proofs.taking.fields_match.Tie as tie
 
@@ -38,13 +38,13 @@ returns c =
     (λ p.
     c.if1.false
     (c.before.before.before.field.ensures.0
-    ∙ (fields-are (fixed_in g.given.now) g.rules.now g.values.now g.terms g.count g.heap.now (record_place g.i + 2)).0 p l.loop.j (omega arith)
+    ∙ (fields_are (fixed_in g.given.now) g.rules.now g.values.now g.terms g.count g.heap.now (record_place g.i + 2)).0 p l.loop.j (omega arith)
     ∙ sym c.before.entry.ensures))
 
 returns-2 : tie.Need-returns-2 invariant-loop decreases-loop
 returns-2 c =
     let g = c.before.before.args in
-    told_true ((fields-are (fixed_in g.given.now) g.rules.now g.values.now g.terms g.count g.heap.now (record_place g.i + 2)).1 (λ k h. c.before.loop.invariant.1 k (omega arith)))
+    told_true ((fields_are (fixed_in g.given.now) g.rules.now g.values.now g.terms g.count g.heap.now (record_place g.i + 2)).1 (λ k h. c.before.loop.invariant.1 k (omega arith)))
 
 pub fields-match-spec : {M : Type 1} → statement M
 fields-match-spec =

@@ -3,7 +3,7 @@ use borrow.Author.Rules.{rules}
 use native.Mathlib.Omega.{arith}
 use Rattle.block.specs.Layout.{fixed_in}
 use Rattle.words.proofs.Answers.{told_false}
-use Rattle.block.proofs.{Scopes.formed-fields, TermsInBlock.size-asked, TermsInBlock.record-told}
+use Rattle.block.proofs.{Scopes.formed_fields, TermsInBlock.size_asked, TermsInBlock.record_told}
 use Rattle.walk.proofs.taking.record_matches.Statement.{statement}
 use Rattle.walk.proofs.taking.record_matches.Tie as tie
 
@@ -18,7 +18,7 @@ returns c =
       arith,
       c.if1.true,
       c.before.record-size.ensures.0,
-      size-asked (fixed_in g.given.now) g.rules.now g.rule g.g g.values.now g.heap.now g.i e,
+      size_asked (fixed_in g.given.now) g.rules.now g.rule g.g g.values.now g.heap.now g.i e,
       c.before.before.atom-size.ensures.0,
     )))
 
@@ -26,7 +26,7 @@ fields-match-requires : tie.Need-fields-match-requires
 fields-match-requires c κs =
     let sized : tie.After-atom-size = c.before.before.before in
     let s : tie.Start = sized.before in (
-      rw c.atom-fields.ensures (formed-fields s.requires.0 s.args.g sized.atom-size.result s.requires.1 sized.atom-size.ensures.0),
+      rw c.atom-fields.ensures (formed_fields s.requires.0 s.args.g sized.atom-size.result s.requires.1 sized.atom-size.ensures.0),
       s.requires.2,
       omega (arith, sized.atom-size.ensures, s.requires.0.ready.atom_count_lem s.args.g s.requires.1),
       s.requires.4,
@@ -38,7 +38,7 @@ returns-2 c =
     let sized : tie.After-atom-size = compared.before in
     let s : tie.Start = sized.before in
     let g = s.args in
-    record-told (fixed_in g.given.now) g.rules.now g.rule g.g g.values.now g.heap.now g.i s.requires.3
+    record_told (fixed_in g.given.now) g.rules.now g.rule g.g g.values.now g.heap.now g.i s.requires.3
     (omega (arith, compared.record-size.ensures.0, c.before.before.if1.false, sized.atom-size.ensures.0))
     (rw (c.before.atom-fields.ensures, sized.atom-size.ensures.0) at c.fields-match.ensures)
 

@@ -3,10 +3,10 @@ use borrow.Author.Rules.{rules}
 use mathlib.Core.Path.{refl}
 use Prim.Native.Nat.{◌-◌, ◌≤◌}
 use native.Mathlib.Omega.{arith}
-use Rattle.semantics.proofs.WalkLoops.{AtomsLeft, atoms-start, atoms-end}
+use Rattle.semantics.proofs.WalkLoops.{AtomsLeft, atoms_start, atoms_end}
 use Rattle.block.specs.Layout.{heap_in, rule_as, fixed_in}
 use Rattle.walk.specs.Taking.TakesAll.{taken, stuck}
-use Rattle.walk.proofs.TakingRecords.{atom_here, atoms_past, taken_next, stuck-stop}
+use Rattle.walk.proofs.TakingRecords.{atom_here, atoms_past, taken_next, stuck_stop}
 use Rattle.walk.proofs.taking.take.Statement.{statement}
 use Rattle.walk.proofs.taking.take.Tie as tie
 
@@ -18,14 +18,14 @@ abbrev decreases-loop : tie.decreases-loop
 decreases-loop rules rule values heap mask given count after₀ g₀ after g = count - g
 
 loop-holds : tie.Need-loop-init invariant-loop decreases-loop
-loop-holds c = (omega arith, atoms-start)
+loop-holds c = (omega arith, atoms_start)
 
 returns : tie.Need-returns invariant-loop decreases-loop
 returns c =
     let l : tie.At-loop invariant-loop decreases-loop = c.before.before.before in
     let g = l.before.before.args in
     stuck c.if1.false
-    (stuck-stop l.loop.invariant.1 (atom_here (fixed_in g.given.now) g.rules.now g.rule l.loop.g (omega (arith, l.before.atom_count_lem.ensures.0))) (rw c.if1.false at c.before.take-record.ensures))
+    (stuck_stop l.loop.invariant.1 (atom_here (fixed_in g.given.now) g.rules.now g.rule l.loop.g (omega (arith, l.before.atom_count_lem.ensures.0))) (rw c.if1.false at c.before.take-record.ensures))
 
 loop-again : tie.Need-loop-preserved invariant-loop decreases-loop
 loop-again c =
@@ -41,7 +41,7 @@ returns-2 : tie.Need-returns-2 invariant-loop decreases-loop
 returns-2 c =
     let l : tie.At-loop invariant-loop decreases-loop = c.before in
     let g = l.before.before.args in
-    taken refl (atoms-end l.loop.invariant.1 (atoms_past (fixed_in g.given.now) g.rules.now g.rule l.loop.g (omega (arith, l.before.atom_count_lem.ensures.0))))
+    taken refl (atoms_end l.loop.invariant.1 (atoms_past (fixed_in g.given.now) g.rules.now g.rule l.loop.g (omega (arith, l.before.atom_count_lem.ensures.0))))
 
 pub take_spec : {M : Type 1} → statement M
 take_spec =

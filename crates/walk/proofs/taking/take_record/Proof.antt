@@ -7,7 +7,7 @@ use lib.ListN.{length, get_or}
 use Rattle.semantics.specs.Heap.{Disjoint}
 use Rattle.words.proofs.Disjoint.{sum_small}
 use Rattle.block.specs.Layout.{heap_in, fixed_in, atom_address, record_count, record_address}
-use Rattle.block.proofs.{HeapInBlock.heap-count, HeapInBlock.record_is, HeapInBlock.records_few}
+use Rattle.block.proofs.{HeapInBlock.heap_count, HeapInBlock.record_is, HeapInBlock.records_few}
 use Rattle.finding.proofs.Addresses.{is_there}
 use Rattle.walk.specs.Taking.TakesFree.{taken, stuck}
 use Rattle.walk.proofs.TakingRecords.{Wanted, nowhere, only}
@@ -82,7 +82,7 @@ returns-3 c =
     let e : tie.Else1 = b.before in
     let g = e.before.before.before.before.before.args in
     let i : ℕ = e.before.before.record_at.result in
-    taken refl i (omega (arith, below e, heap-count g.heap.now)) (sym (record_is g.heap.now i (below e)) ∙ c.before.record-matches.ensures.so c.if3.true)
+    taken refl i (omega (arith, below e, heap_count g.heap.now)) (sym (record_is g.heap.now i (below e)) ∙ c.before.record-matches.ensures.so c.if3.true)
     (rw (← b.bit.ensures) (free c.before.before)) (ap (λ (x : ℕ). x + g.mask) b.bit.ensures)
 
 returns-4 : tie.Need-returns-4

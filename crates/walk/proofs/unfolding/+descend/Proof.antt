@@ -6,10 +6,10 @@ use mathlib.Core.{Path.◌∙◌}
 use Prim.Native.Nat.{ℕ, ◌-◌, ◌≤◌, ◌<◌}
 use native.Mathlib.Omega.{arith}
 use borrow.Fn.{Kinds.In, PlainCycle.Measures, PlainCycle.is, PlainCycle.falls, PlainCycle.and}
-use Rattle.semantics.proofs.{WalkSteps.fuel-stop, WalkSteps.node-stop, WalkLoops.CallsLeft, WalkLoops.left-start, WalkLoops.left_end, WalkLoops.left-stop, WalkLoops.left-next}
+use Rattle.semantics.proofs.{WalkSteps.fuel_stop, WalkSteps.node_stop, WalkLoops.CallsLeft, WalkLoops.left_start, WalkLoops.left_end, WalkLoops.left_stop, WalkLoops.left_next}
 use Rattle.block.specs.Layout.{rule_as, rule_set_read, fixed_in, heap_in}
 use Rattle.walk.specs.Walk.{values_in}
-use Rattle.walk.proofs.Descending.{call_here, calls_past, call_outcome, chosen_outcome, choice-made, choice-none}
+use Rattle.walk.proofs.Descending.{call_here, calls_past, call_outcome, chosen_outcome, choice_made, choice_none}
 use Rattle.walk.proofs.unfolding.descend.Reads as descend
 use Rattle.walk.proofs.unfolding.descend.Kinds as descend-kinds
 use Rattle.walk.proofs.unfolding.+descend.Lts-descend as descend-lts
@@ -81,29 +81,29 @@ module _ (t : ℕ) where
   -- ---- before the loop
 
   descend-returns : descend-lts.Need-returns (claims t) (descend-at t) descend.Post descend-Inv-loop descend-μ-loop
-  descend-returns c = record { outcome = rw c.if1.true (fuel-stop _ _) }
+  descend-returns c = record { outcome = rw c.if1.true (fuel_stop _ _) }
 
   descend-choose-requires : descend-lts.Need-choose-requires (claims t) (descend-at t) descend.Post descend-Inv-loop descend-μ-loop
   descend-choose-requires c κs = c.before.before.requires.1
 
   descend-call-count-requires : descend-lts.Need-call-count-requires (claims t) (descend-at t) descend.Post descend-Inv-loop descend-μ-loop
-  descend-call-count-requires c κs = (choice-made c.before.choose.ensures c.if2.true).place.formed.inside
+  descend-call-count-requires c κs = (choice_made c.before.choose.ensures c.if2.true).place.formed.inside
 
   descend-loop-holds : descend-lts.Need-loop-init (claims t) (descend-at t) descend.Post descend-Inv-loop descend-μ-loop
-  descend-loop-holds c = (omega arith, left-start)
+  descend-loop-holds c = (omega arith, left_start)
 
   -- ---- a turn
 
   descend-call-predicate-requires : descend-lts.Need-call-predicate-requires (claims t) (descend-at t) descend.Post descend-Inv-loop descend-μ-loop
   descend-call-predicate-requires c κs =
       let l : Turn = c.before in
-      let f = (choice-made (choosing l).choose.ensures l.before.before.if2.true).place.formed in
+      let f = (choice_made (choosing l).choose.ensures l.before.before.if2.true).place.formed in
       (f.inside, omega (arith, c.loop-test.true, l.before.call-count.ensures.0, f.ready.calls_few))
 
   descend-call-arguments-requires : descend-lts.Need-call-arguments-requires (claims t) (descend-at t) descend.Post descend-Inv-loop descend-μ-loop
   descend-call-arguments-requires c κs =
       let l : Turn = c.before.before.before.before in
-      let made = choice-made (choosing l).choose.ensures l.before.before.if2.true in (
+      let made = choice_made (choosing l).choose.ensures l.before.before.if2.true in (
         made.place,
         omega (arith, c.before.before.before.loop-test.true, l.before.call-count.ensures.0),
         made.all_known,
@@ -115,7 +115,7 @@ module _ (t : ℕ) where
       let i = c.before.before.before.before.before in
       let l : Turn = i.before in
       let s : Entry = entry (choosing l) in
-      let f = (choice-made (choosing l).choose.ensures l.before.before.if2.true).place.formed in
+      let f = (choice_made (choosing l).choose.ensures l.before.before.if2.true).place.formed in
       let named = f.ready.call_named l.loop.c (omega (arith, i.loop-test.true, l.before.call-count.ensures.0)) in (
         omega (arith, s.pre.0, (choosing l).before.before.if1.false),
         (
@@ -130,14 +130,14 @@ module _ (t : ℕ) where
       let d : Called = c.before in
       let l : Turn = turn d in
       let g = (entry (choosing l)).args in
-      let made = choice-made (choosing l).choose.ensures l.before.before.if2.taken in
+      let made = choice_made (choosing l).choose.ensures l.before.before.if2.taken in
       let here = call_here (fixed_in g.given.now) g.rules.now (choosing l).choose.result.rule l.loop.c (omega (arith, d.before.before.before.before.before.before.loop-test.true, l.before.call-count.ensures.0)) in
       let called =
       call_outcome g.given.now g.rules.now g.heap.now (choosing l).choose.result.rule l.loop.c _
       (d.before.before.before.before.wide.ensures.0 ∙ d.before.before.before.before.before.call-predicate.ensures) d.before.before.call-arguments.ensures d.descend.ensures c.if3.false in
       record {
         outcome = rw c.if3.false
-            (chosen_outcome (entry (choosing l)).pre.1.0 (choosing l).before.before.if1.left made (left-stop l.loop.inv.1 here called));
+            (chosen_outcome (entry (choosing l)).pre.1.0 (choosing l).before.before.if1.left made (left_stop l.loop.inv.1 here called));
       }
 
   descend-loop-again : descend-lts.Need-loop-preserved (claims t) (descend-at t) descend.Post descend-Inv-loop descend-μ-loop
@@ -149,7 +149,7 @@ module _ (t : ℕ) where
       let called =
       call_outcome g.given.now g.rules.now g.heap.now (choosing l).choose.result.rule l.loop.c _
       (d.before.before.before.before.wide.ensures.0 ∙ d.before.before.before.before.before.call-predicate.ensures) d.before.before.call-arguments.ensures d.descend.ensures c.if3.true in
-      (omega (arith, d.before.before.before.before.before.before.loop-test.true), left-next l.loop.inv.1 here (entry (choosing l)).pre.1.0.heap_formed.ordered called)
+      (omega (arith, d.before.before.before.before.before.before.loop-test.true), left_next l.loop.inv.1 here (entry (choosing l)).pre.1.0.heap_formed.ordered called)
 
   -- ---- after it
 
@@ -157,12 +157,12 @@ module _ (t : ℕ) where
   descend-returns-3 c =
       let l : Turn = c.before in
       let g = (entry (choosing l)).args in
-      let made = choice-made (choosing l).choose.ensures l.before.before.if2.true in
+      let made = choice_made (choosing l).choose.ensures l.before.before.if2.true in
       let past = calls_past (fixed_in g.given.now) g.rules.now (choosing l).choose.result.rule l.loop.c (omega (arith, l.before.call-count.ensures.0)) in
       record { outcome = chosen_outcome (entry (choosing l)).pre.1.0 (choosing l).before.before.if1.false made (left_end l.loop.invariant.1 past) }
 
   descend-returns-4 : descend-lts.Need-returns-4 (claims t) (descend-at t) descend.Post descend-Inv-loop descend-μ-loop
-  descend-returns-4 c = record { outcome = node-stop _ _ (λ plain rule. choice-none c.before.choose.ensures c.if2.false rule plain) }
+  descend-returns-4 c = record { outcome = node_stop _ _ (λ plain rule. choice_none c.before.choose.ensures c.if2.false rule plain) }
 
 pub +descend-spec : {M : Type 1} → statement M
 +descend-spec =

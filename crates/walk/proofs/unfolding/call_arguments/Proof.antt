@@ -7,9 +7,9 @@ use Rattle.semantics.specs.Tree.{value_of}
 use Rattle.words.proofs.Tabulate.{tabulate_in}
 use Rattle.block.specs.Layout.{term_as, call_as, fixed_in, call_count, call_place, call_arity, call_term}
 use Rattle.block.specs.Ready.{TermByte, FixedFits, variables_in}
-use Rattle.block.proofs.{Scopes.scoped_of, TermsInBlock.terms-are, Values.terms-same}
-use Rattle.finding.proofs.Known.{valued-all, valued-small}
-use Rattle.walk.proofs.{Arguments.Written, Arguments.written_none, Arguments.written-more, Arguments.written-take, Arguments.written-counted, Trying.starts}
+use Rattle.block.proofs.{Scopes.scoped_of, TermsInBlock.terms_are, Values.terms_same}
+use Rattle.finding.proofs.Known.{valued_all, valued_small}
+use Rattle.walk.proofs.{Arguments.Written, Arguments.written_none, Arguments.written_more, Arguments.written_take, Arguments.written_counted, Trying.starts}
 use Rattle.walk.proofs.unfolding.call_arguments.Statement.{statement}
 use Rattle.walk.proofs.unfolding.call_arguments.Tie as tie
 
@@ -55,9 +55,9 @@ loop-again c =
     let g = s.args in
     let is = rw c.before.call_term_lem.ensures at c.entry.ensures in
     let known =
-    valued-small g.values.now (variables_in g.rules.now g.rule) (fixed_in g.given.now) s.requires.0.formed.ready.variables_few
-    (call_term g.rules.now g.rule g.c l.loop.j) (term t) (valued-all g.values.now (variables_in g.rules.now g.rule) _ (sym s.requires.2.is)) in
-    (omega arith, written-more l.loop.invariant.1 (omega (arith, few l.before)) is (omega (arith, is, known)))
+    valued_small g.values.now (variables_in g.rules.now g.rule) (fixed_in g.given.now) s.requires.0.formed.ready.variables_few
+    (call_term g.rules.now g.rule g.c l.loop.j) (term t) (valued_all g.values.now (variables_in g.rules.now g.rule) _ (sym s.requires.2.is)) in
+    (omega arith, written_more l.loop.invariant.1 (omega (arith, few l.before)) is (omega (arith, is, known)))
 
 returns : tie.Need-returns invariant-loop decreases-loop
 returns c =
@@ -66,10 +66,10 @@ returns c =
     let g = s.args in
     let all : l.loop.j ≡ call_arity g.rules.now g.rule g.c = omega (arith, l.before.call_arity_lem.ensures.0) in
     record {
-      all_known = written-counted l.loop.invariant.1;
-      are_values = rw all at (written-take l.loop.invariant.1 (omega (arith, few l.before)))
-          ∙ sym (terms-are (fixed_in g.given.now) g.rules.now g.values.now (call_place g.rule g.c + 1) (call_arity g.rules.now g.rule g.c))
-          ∙ terms-same (starts s.requires.3 s.requires.0 s.requires.2) (call_as (fixed_in g.given.now) g.rules.now (call_place g.rule g.c)).arguments
+      all_known = written_counted l.loop.invariant.1;
+      are_values = rw all at (written_take l.loop.invariant.1 (omega (arith, few l.before)))
+          ∙ sym (terms_are (fixed_in g.given.now) g.rules.now g.values.now (call_place g.rule g.c + 1) (call_arity g.rules.now g.rule g.c))
+          ∙ terms_same (starts s.requires.3 s.requires.0 s.requires.2) (call_as (fixed_in g.given.now) g.rules.now (call_place g.rule g.c)).arguments
           (s.requires.0.well.calls_scoped (call_as (fixed_in g.given.now) g.rules.now (call_place g.rule g.c))
           (tabulate_in (call_count g.rules.now g.rule) (λ i. call_as (fixed_in g.given.now) g.rules.now (call_place g.rule i)) g.c s.requires.1));
     }
