@@ -1,0 +1,13 @@
+-- `exchange_calls` exchanges byte by byte. Invariant: the first j bytes of both calls have changed places.
+use borrow.Author.Rules.{rules}
+use Prim.Native.Nat.{◌+◌, ◌-◌, ◌≤◌}
+use mathlib.Core.Path.{◌≡◌, refl}
+use native.Mathlib.Omega.{arith}
+use Rattle.block.proofs.Exchange.{Traded, traded_none, traded_more, traded_all}
+use Rattle.block.proofs.exchange_calls.Given as goal
+
+abbrev pub invariant-loop-j : goal.invariant-loop-j
+invariant-loop-j l = (l.j ≤ 5) × Traded l.initial.rules l.rules l.second l.j
+
+abbrev pub decreases-loop-j : goal.decreases-loop-j
+decreases-loop-j l = 5 - l.j
