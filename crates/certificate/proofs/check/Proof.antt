@@ -1,6 +1,6 @@
 -- `check` tests the number of words and the last fact, and passes the lines one by one: those passed hold. What is told of the blocks is
 -- told of the input that they hold.
-use borrow.Author.{Needs.needs, Count.below_more}
+use borrow.Author.{Rules.rules, Count.below_more}
 use mathlib.Core.Path.{sym, ◌∙◌}
 use Prim.Native.Nat.{ℕ, ◌+◌, ◌-◌, ◌≤◌, ◌<◌}
 use native.Mathlib.Omega.{arith}
@@ -65,5 +65,5 @@ check-spec =
     tie.close
     (tie.spec invariant-loop decreases-loop (λ c. checked c.before.before.requires (told_false (λ p. omega (arith, p.some, c.if1.true))))
     (λ c. checked c.before.before.before.requires (told_false (λ p. omega (arith, p.most, c.if2.true)))) returns-3
-    (λ c κs. search needs) returns-4 (λ c. (omega arith, omega arith, λ j h l. absurd (omega arith))) line-holds-requires
-    (λ c. search needs) (λ c. search needs) loop-again returns-5 returns-6)
+    (λ c κs. search rules) returns-4 (λ c. (omega arith, omega arith, λ j h l. absurd (omega arith))) line-holds-requires
+    (λ c. search rules) (λ c. search rules) loop-again returns-5 returns-6)

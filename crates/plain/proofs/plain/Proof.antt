@@ -1,5 +1,5 @@
 -- `plain` passes the rules one by one: those passed are as a plain rule set asks, and the first that is not is the answer no.
-use borrow.Author.{Needs.needs, Count.below_more}
+use borrow.Author.{Rules.rules, Count.below_more}
 use Prim.Native.Nat.{ℕ, ◌-◌, ◌≤◌, ◌<◌}
 use native.Mathlib.Omega.{arith}
 use Rattle.words.proofs.Answers.{told_true, told_false}
@@ -38,4 +38,4 @@ returns-2 c =
 pub plain-spec : {M : Type 1} → statement M
 plain-spec =
     tie.close
-    (tie.spec invariant-loop decreases-loop (λ c κs. search needs) loop-holds plain-rule-requires (λ c. search needs) (λ c. search needs) loop-again returns returns-2)
+    (tie.spec invariant-loop decreases-loop (λ c κs. search rules) loop-holds plain-rule-requires (λ c. search rules) (λ c. search rules) loop-again returns returns-2)

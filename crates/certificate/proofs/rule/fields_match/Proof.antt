@@ -1,5 +1,5 @@
 -- `fields_match` passes the fields one by one: those passed are the positions of their terms, and the first that is not is the answer no.
-use borrow.Author.{Needs.needs, Count.below_none, Count.below_more}
+use borrow.Author.{Rules.rules, Count.below_none, Count.below_more}
 use mathlib.Core.Path.{◌≡◌, sym, ◌∙◌}
 use Prim.Native.Nat.{ℕ, ◌+◌, ◌-◌, ◌≤◌, ◌<◌}
 use native.Mathlib.Omega.{arith}
@@ -40,6 +40,6 @@ returns-2 c =
 pub fields-match-spec : {M : Type 1} → statement M
 fields-match-spec =
     tie.close
-    (tie.spec invariant-loop decreases-loop (λ c. (omega arith, below_none _)) (λ c. search needs) (λ c. search needs) (λ c. search needs)
-    (λ c. search needs) (λ c κs. search needs) (λ c. search needs) (λ c. search needs)
+    (tie.spec invariant-loop decreases-loop (λ c. (omega arith, below_none _)) (λ c. search rules) (λ c. search rules) (λ c. search rules)
+    (λ c. search rules) (λ c κs. search rules) (λ c. search rules) (λ c. search rules)
     (λ c. (omega arith, below_more _ _ (at c.before).loop.invariant.1 (c.if1.true ∙ c.before.position.ensures))) returns returns-2)

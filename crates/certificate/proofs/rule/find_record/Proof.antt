@@ -1,5 +1,5 @@
 -- `find_record` passes the records one by one: none of those passed is as asked for, so the first that is comes first.
-use borrow.Author.{Needs.needs, Count.below_none, Count.below_more}
+use borrow.Author.{Rules.rules, Count.below_none, Count.below_more}
 use mathlib.Core.Logic.{◌≢◌}
 use Prim.Native.Nat.{ℕ, ◌-◌, ◌≤◌, ◌<◌}
 use native.Mathlib.Omega.{arith}
@@ -33,5 +33,5 @@ returns-2 c =
 pub find-record-spec : {M : Type 1} → statement M
 find-record-spec =
     tie.close
-    (tie.spec invariant-loop decreases-loop (λ c κs. search needs) (λ c. (omega arith, below_none _)) (λ c κs. search needs) returns (λ c. search needs)
-    (λ c. search needs) loop-again returns-2)
+    (tie.spec invariant-loop decreases-loop (λ c κs. search rules) (λ c. (omega arith, below_none _)) (λ c κs. search rules) returns (λ c. search rules)
+    (λ c. search rules) loop-again returns-2)

@@ -1,5 +1,5 @@
 -- `pures_hold` passes the conditions one by one: those passed hold, and the first that does not is the answer no.
-use borrow.Author.{Needs.needs, Count.below_none, Count.below_more}
+use borrow.Author.{Rules.rules, Count.below_none, Count.below_more}
 use Prim.Native.Nat.{ℕ, ◌-◌, ◌≤◌, ◌<◌}
 use native.Mathlib.Omega.{arith}
 use Rattle.semantics.specs.Tree.{Meets}
@@ -32,5 +32,5 @@ returns-2 c =
 pub pures-hold-spec : {M : Type 1} → statement M
 pures-hold-spec =
     tie.close
-    (tie.spec invariant-loop decreases-loop (λ c κs. search needs) (λ c. (omega arith, below_none _)) (λ c κs. search needs) (λ c. search needs)
-    (λ c. search needs) loop-again returns returns-2)
+    (tie.spec invariant-loop decreases-loop (λ c κs. search rules) (λ c. (omega arith, below_none _)) (λ c κs. search rules) (λ c. search rules)
+    (λ c. search rules) loop-again returns returns-2)

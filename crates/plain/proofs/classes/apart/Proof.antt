@@ -1,5 +1,5 @@
 -- `apart` passes the conditions one by one: those passed are met by the entries, and the first that is not is the answer no.
-use borrow.Author.{Needs.needs, Count.below_more}
+use borrow.Author.{Rules.rules, Count.below_more}
 use mathlib.Core.{Path.◌≡◌, Logic.◌≢◌, Logic.⊎_elim}
 use Prim.Native.Nat.{◌-◌, ◌≤◌}
 use native.Mathlib.Omega.{arith}
@@ -67,5 +67,5 @@ returns-2 c =
 pub apart-spec : {M : Type 1} → statement M
 apart-spec =
     tie.close
-    (tie.spec invariant-loop decreases-loop (λ c κs. search needs) loop-holds (λ c κs. search needs) (λ c κs. search needs) entry-requires
-    (λ c κs. search needs) entry-requires-2 returns (λ c. search needs) (λ c. search needs) loop-again returns-2)
+    (tie.spec invariant-loop decreases-loop (λ c κs. search rules) loop-holds (λ c κs. search rules) (λ c κs. search rules) entry-requires
+    (λ c κs. search rules) entry-requires-2 returns (λ c. search rules) (λ c. search rules) loop-again returns-2)

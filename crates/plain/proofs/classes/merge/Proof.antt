@@ -1,5 +1,5 @@
 -- `merge` merges the equalities one by one: what follows the classes is what meets those merged so far.
-use borrow.Author.{Needs.needs, Count.below_more}
+use borrow.Author.{Rules.rules, Count.below_more}
 use mathlib.Core.{Path.◌≡◌, Path.refl}
 use Prim.Native.Nat.{◌+◌, ◌-◌, ◌≤◌}
 use native.Mathlib.Omega.{arith}
@@ -59,4 +59,4 @@ returns-2 c =
 pub merge-spec : {M : Type 1} → statement M
 merge-spec =
     tie.close
-    (tie.spec invariant-loop decreases-loop (λ c κs. search needs) loop-holds merge-pure-requires (λ c. search needs) (λ c. search needs) loop-again returns returns-2)
+    (tie.spec invariant-loop decreases-loop (λ c κs. search rules) loop-holds merge-pure-requires (λ c. search rules) (λ c. search rules) loop-again returns returns-2)

@@ -1,5 +1,5 @@
 -- `same_terms` compares left with left and right with right, and then crosswise.
-use borrow.Author.{Needs.needs, Tests.eqb-true}
+use borrow.Author.{Rules.rules, Tests.eqb-true}
 use mathlib.Core.{Bool.false≢true, Path.sym, Path.◌∙◌, Logic.inl, Logic.inr}
 use Rattle.plain.proofs.excluding.same_terms.Statement.{statement}
 use Rattle.plain.proofs.excluding.same_terms.Tie as tie
@@ -23,5 +23,5 @@ returns-2 c e =
 pub same-terms-spec : {M : Type 1} → statement M
 same-terms-spec =
     tie.close
-    (tie.spec (λ c κs. search needs) (λ c κs. search needs) (λ c κs. search needs) (λ c κs. search needs) returns (λ c κs. search needs) (λ c κs. search needs)
+    (tie.spec (λ c κs. search rules) (λ c κs. search rules) (λ c κs. search rules) (λ c κs. search rules) returns (λ c κs. search rules) (λ c κs. search rules)
     returns-2 (λ c e. absurd (false≢true e)))

@@ -1,5 +1,5 @@
 -- `shared` tells a fixed value by its byte, and compares any other with the number of arguments.
-use borrow.Author.{Needs.needs, Tests.ltb-true, Tests.ltb-false}
+use borrow.Author.{Rules.rules, Tests.ltb-true, Tests.ltb-false}
 use mathlib.Core.Logic.{inl, inr, ⊎_elim}
 use mathlib.Core.Path.{◌≡◌}
 use Prim.Native.Nat.{ℕ, ◌≤◌, ◌<◌}
@@ -21,4 +21,4 @@ returns-2 : tie.Need-returns-2
 returns-2 c = told-argument c.before.before.args.term c.wide.result c.before.before.args.arity c.wide.ensures.0 (omega (arith, c.before.if1.false))
 
 pub shared-spec : {M : Type 1} → statement M
-shared-spec = tie.close (tie.spec returns (λ c κs. search needs) returns-2)
+shared-spec = tie.close (tie.spec returns (λ c κs. search rules) returns-2)

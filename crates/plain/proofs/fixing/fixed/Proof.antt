@@ -1,5 +1,5 @@
 -- `fixed` looks at a variable's entry; any other term is a fixed value.
-use borrow.Author.{Needs.needs, Tests.ltb-true, Tests.ltb-false}
+use borrow.Author.{Rules.rules, Tests.ltb-true, Tests.ltb-false}
 use mathlib.Core.{Logic.⊎_elim}
 use Prim.Native.Nat.{ℕ, ◌<◌}
 use native.Mathlib.Omega.{arith}
@@ -24,4 +24,4 @@ returns-2 : tie.Need-returns-2
 returns-2 c = told_true (λ l. absurd (omega (arith, c.if1.false)))
 
 pub fixed-spec : {M : Type 1} → statement M
-fixed-spec = tie.close (tie.spec (λ c. search needs) element-copy-out-result returns returns-2)
+fixed-spec = tie.close (tie.spec (λ c. search rules) element-copy-out-result returns returns-2)

@@ -1,5 +1,5 @@
 -- A byte that passes the test is given on; any other stops the cursor.
-use borrow.Author.{Needs.needs, Tests.lt-ltb, Tests.le-ltb}
+use borrow.Author.{Rules.rules, Tests.lt-ltb, Tests.le-ltb}
 use Rattle.reader.proofs.Chain.{chain, passed, failed}
 use Rattle.reader.proofs.bytes.below.Statement.{statement}
 use Rattle.reader.proofs.bytes.below.Tie as tie
@@ -19,4 +19,4 @@ returns-2 c =
     }
 
 pub below-spec : {M : Type 1} → statement M
-below-spec = tie.close (tie.spec (λ c κs. search needs) returns (λ c κs. search needs) returns-2)
+below-spec = tie.close (tie.spec (λ c κs. search rules) returns (λ c κs. search rules) returns-2)

@@ -1,5 +1,5 @@
 -- A byte that passes both tests is given on; any other stops the cursor, and the value is then the least.
-use borrow.Author.{Needs.needs, Tests.le-leb, Tests.lt-leb}
+use borrow.Author.{Rules.rules, Tests.le-leb, Tests.lt-leb}
 use mathlib.Core.Logic.{⊎_elim}
 use Rattle.reader.proofs.Chain.{chain, passed, failed, over}
 use Rattle.reader.proofs.bytes.ranged.Statement.{statement}
@@ -28,8 +28,8 @@ returns-2 c =
           (chain _ (passed a.s.now _ _ a.range _ (le-leb _ _ w.0.taken)) (failed a.s.now _ _ a.range _ a.least (lt-leb _ _ w.1.left))))
           (λ w. chain _ b.ensures (chain _ (failed a.s.now _ _ a.range _ 0 (lt-leb _ _ w.left)) (over a.s.now b.result.cursor a.range _ a.least)))
           c.before.if1.branch);
-      within = record { low = search needs; high = c.before.before.before.before.requires };
+      within = record { low = search rules; high = c.before.before.before.before.requires };
     }
 
 pub ranged-spec : {M : Type 1} → statement M
-ranged-spec = tie.close (tie.spec (λ c κs. search needs) returns (λ c κs. search needs) returns-2)
+ranged-spec = tie.close (tie.spec (λ c κs. search rules) returns (λ c κs. search rules) returns-2)

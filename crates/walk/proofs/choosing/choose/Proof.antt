@@ -1,5 +1,5 @@
 -- `choose` tries the rules one after the other: those passed cannot be chosen in a plain rule set.
-use borrow.Author.{Needs.needs, Count.below_none, Count.below_more}
+use borrow.Author.{Rules.rules, Count.below_none, Count.below_more}
 use mathlib.Core.Path.{refl}
 use Prim.Native.Nat.{ℕ, ◌-◌, ◌≤◌, ◌<◌}
 use native.Mathlib.Omega.{arith}
@@ -47,5 +47,5 @@ returns-2 c =
 pub choose_spec : {M : Type 1} → statement M
 choose_spec =
     tie.close
-    (tie.spec invariant-loop decreases-loop (λ c κs. search needs) (λ c. (omega arith, below_none _)) (λ c κs. search needs) attempt-requires returns
-    (λ c. search needs) (λ c. search needs) loop-again returns-2)
+    (tie.spec invariant-loop decreases-loop (λ c κs. search rules) (λ c. (omega arith, below_none _)) (λ c κs. search rules) attempt-requires returns
+    (λ c. search rules) (λ c. search rules) loop-again returns-2)

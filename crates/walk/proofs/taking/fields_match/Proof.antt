@@ -1,5 +1,5 @@
 -- `fields_match` passes the fields one by one: those passed are the values of their terms, and the first that is not is the answer no.
-use borrow.Author.{Needs.needs, Count.below_none, Count.below_more}
+use borrow.Author.{Rules.rules, Count.below_none, Count.below_more}
 use mathlib.Core.Path.{◌≡◌, sym, ◌∙◌}
 use Prim.Native.Nat.{ℕ, ◌+◌, ◌-◌, ◌≤◌, ◌<◌}
 use native.Mathlib.Omega.{arith}
@@ -49,5 +49,5 @@ returns-2 c =
 pub fields-match-spec : {M : Type 1} → statement M
 fields-match-spec =
     tie.close
-    (tie.spec invariant-loop decreases-loop (λ c. (omega arith, below_none _)) (λ c κs. search needs) (λ c. search needs) (λ c. search needs)
-    entry-requires (λ c. search needs) (λ c. search needs) loop-again returns returns-2)
+    (tie.spec invariant-loop decreases-loop (λ c. (omega arith, below_none _)) (λ c κs. search rules) (λ c. search rules) (λ c. search rules)
+    entry-requires (λ c. search rules) (λ c. search rules) loop-again returns returns-2)
