@@ -47,7 +47,7 @@ returns c =
     (told_true (record {
       some = omega (arith, c.if-count-eq0.false);
       most = omega (arith, c.if-count-gt65535.false);
-      c = omega (arith, c.if-words-ne0.false);
+      whole = omega (arith, c.if-words-ne0.false);
       is_last = sym c.fact_at.ensures ∙ c.if-fact_at-last.false;
       each = λ k low high. c.loop-k.invariant.2 k (omega arith) low;
     }))

@@ -11,12 +11,6 @@ use Rattle.words.proofs.{Answers.told_false, Answers.told_equal, Disjoint.sum_sm
 use Rattle.certificate.proofs.{Passing.CallsFrom, Passing.calls_step, Passing.calls_done}
 use Rattle.certificate.proofs.join.calls_join.Goals as goal
 
--- the subheap of the line that is called
-abbrev Part : tie.After-shares invariant-loop decreases-loop → Type 0
-Part c =
-    let l = at c in
-    c.part_of-part.result ≡ part_of (fact_at (start l).args.words.now (l.loop.lines % 65536))
-
 pub loop-c-init : goal.loop-c-init
 loop-c-init c =
     let e = c.positions_at-word.ensures in
@@ -41,7 +35,7 @@ returns-then-shares c =
     told_false
     (λ p.
     ((calls_step g.rules.now g.rule c.loop-c.c (omega (arith, c.call_count-count.ensures))).0 (c.loop-c.invariant.2.0 p)).disjoint
-    (rw (← (let part_is' : Part c = c.part_of-part.ensures ∙ ap part_of c.fact_at.ensures in part_is')) (c.shares.ensures.so c.if-shares.true)))
+    (rw (← (let part_is' : (c.part_of-part.result ≡ part_of (fact_at c.args.words.now (c.loop-c.lines % 65536))) = c.part_of-part.ensures ∙ ap part_of c.fact_at.ensures in part_is')) (c.shares.ensures.so c.if-shares.true)))
 
 pub overflow_add-sum : goal.overflow_add-sum
 overflow_add-sum c = record {
@@ -53,14 +47,14 @@ pub loop-c-preserved : goal.loop-c-preserved
 loop-c-preserved c =
     let g = c.args in
     let h : c.loop-c.c < call_count g.rules.now g.rule = omega (arith, c.call_count-count.ensures) in
-    let e : Part c = (let part_is' : Part c = c.part_of-part.ensures ∙ ap part_of c.fact_at.ensures in part_is') in (
+    let e : (c.part_of-part.result ≡ part_of (fact_at c.args.words.now (c.loop-c.lines % 65536))) = (let part_is' : (c.part_of-part.result ≡ part_of (fact_at c.args.words.now (c.loop-c.lines % 65536))) = c.part_of-part.ensures ∙ ap part_of c.fact_at.ensures in part_is') in (
       omega arith,
       (let small' : c.part_of-part.result + c.loop-c.sum < 65536 = sum_small c.part_of-part.result c.loop-c.sum (omega (arith, c.part_of-part.ensures)) c.loop-c.invariant.1
           (c.shares.ensures.not_so c.if-shares.false) in small'),
       (
         λ p. rw e ((calls_step g.rules.now g.rule c.loop-c.c h).0 (c.loop-c.invariant.2.0 p)).rest,
         λ p. c.loop-c.invariant.2.1 ((calls_step g.rules.now g.rule c.loop-c.c h).1
-            (record { line = c.calls_line.ensures.so c.if-calls_line.true; disjoint = rw e (c.shares.ensures.not_so c.if-shares.false); rest = rw e p })),
+            (record { line = c.calls_line.ensures.so c.if-calls_line.true; disjoint = rw (← e) (c.shares.ensures.not_so c.if-shares.false); rest = rw (← e) p })),
       ),
     )
 

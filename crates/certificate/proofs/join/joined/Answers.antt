@@ -11,13 +11,6 @@ use Rattle.words.proofs.{Answers.told_false, Answers.told_as, Disjoint.sum_small
 use Rattle.certificate.proofs.Passing.{found_first, found_none, AtomsFrom, atoms_step, atoms_first, atoms_done}
 use Rattle.certificate.proofs.join.joined.Goals as goal
 
--- the record that the next atom takes
-abbrev Taken : tie.Else1 invariant-loop decreases-loop → Type 0
-Taken c =
-    let l = at c in
-    let s = (start l).args in
-    FirstRecord s.records.now (asked (given_by l.positions_at_lem.result) (atom_in s.rules.now (atom_place s.rule l.loop.g))) c.find_record-i.result
-
 pub loop-g-init : goal.loop-g-init
 loop-g-init c = let e = c.positions_at-word.ensures in (omega arith, omega arith, rw e (λ p. p, λ p. p))
 
@@ -34,11 +27,12 @@ returns-then-shares c =
     let s = c.args in
     told_false
     (λ p.
-    (atoms_first s.rules.now s.rule c.loop-g.g (omega (arith, c.atom_count-count.ensures)) ((let taken' : Taken c = found_first c.find_record-i.ensures (omega (arith, c.if-record_count-i.false, c.record_count.ensures)) in taken')) (c.loop-g.invariant.2.0 p)).disjoint
+    (atoms_first s.rules.now s.rule c.loop-g.g (omega (arith, c.atom_count-count.ensures)) ((let taken' : (let s = c.args in
+    FirstRecord s.records.now (asked (given_by c.positions_at-word.result) (atom_in s.rules.now (atom_place s.rule c.loop-g.g))) c.find_record-i.result) = found_first c.find_record-i.ensures (omega (arith, c.if-record_count-i.false, c.record_count.ensures)) in taken')) (c.loop-g.invariant.2.0 p)).disjoint
     (rw (← c.bit-here.ensures) (c.shares.ensures.so c.if-shares.true)))
 
 pub overflow_add-used : goal.overflow_add-used
-overflow_add-used c = record { fits = (let small' : c.bit-here.result + c.loop-g.used < 65536 = sum_small c.bit-here.result c.loop-g.used (omega (arith, c.bit-here.type-inv)) c.loop-g.invariant.1 (c.shares.ensures.not_so c.if-shares.false) in small') }
+overflow_add-used c = record { fits = (let small' : c.bit-here.result + c.loop-g.used < 65536 = sum_small c.bit-here.result c.loop-g.used (omega (arith, c.bit-here.type_inv)) c.loop-g.invariant.1 (c.shares.ensures.not_so c.if-shares.false) in small') }
 
 pub loop-g-preserved : goal.loop-g-preserved
 loop-g-preserved c =
@@ -46,10 +40,19 @@ loop-g-preserved c =
     let h : c.loop-g.g < atom_count s.rules.now s.rule = omega (arith, c.atom_count-count.ensures) in
     let e = c.bit-here.ensures in (
       omega arith,
-      (let small' : c.bit-here.result + c.loop-g.used < 65536 = sum_small c.bit-here.result c.loop-g.used (omega (arith, c.bit-here.type-inv)) c.loop-g.invariant.1 (c.shares.ensures.not_so c.if-shares.false) in small'),
+      (let small' : c.bit-here.result + c.loop-g.used < 65536 = sum_small c.bit-here.result c.loop-g.used (omega (arith, c.bit-here.type_inv)) c.loop-g.invariant.1 (c.shares.ensures.not_so c.if-shares.false) in small'),
       (
-        λ p. rw e (atoms_first s.rules.now s.rule c.loop-g.g h ((let taken' : Taken c = found_first c.find_record-i.ensures (omega (arith, c.if-record_count-i.false, c.record_count.ensures)) in taken')) (c.loop-g.invariant.2.0 p)).rest,
-        λ p. c.loop-g.invariant.2.1 ((atoms_step s.rules.now s.rule c.loop-g.g h).1 (_, record { takes = (let taken' : Taken c = found_first c.find_record-i.ensures (omega (arith, c.if-record_count-i.false, c.record_count.ensures)) in taken'); disjoint = rw e (c.shares.ensures.not_so c.if-shares.false); rest = rw e p })),
+        λ p. rw e (atoms_first s.rules.now s.rule c.loop-g.g h ((let taken' : (let s = c.args in
+            FirstRecord s.records.now (asked (given_by c.positions_at-word.result) (atom_in s.rules.now (atom_place s.rule c.loop-g.g))) c.find_record-i.result) = found_first c.find_record-i.ensures (omega (arith, c.if-record_count-i.false, c.record_count.ensures)) in taken')) (c.loop-g.invariant.2.0 p)).rest,
+        λ p. c.loop-g.invariant.2.1 ((atoms_step s.rules.now s.rule c.loop-g.g h).1 (
+          _,
+          record {
+            takes = (let taken' : (let s = c.args in
+                FirstRecord s.records.now (asked (given_by c.positions_at-word.result) (atom_in s.rules.now (atom_place s.rule c.loop-g.g))) c.find_record-i.result) = found_first c.find_record-i.ensures (omega (arith, c.if-record_count-i.false, c.record_count.ensures)) in taken');
+            disjoint = rw (← e) (c.shares.ensures.not_so c.if-shares.false);
+            rest = rw (← e) p;
+          },
+        )),
       ),
     )
 
