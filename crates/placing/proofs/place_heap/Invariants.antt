@@ -1,0 +1,17 @@
+-- `place_heap` meets its contract. After k turns the first k records are written; writing one leaves the others as they are.
+use Prim.Native.Nat.{◌-◌, ◌≤◌}
+use native.Mathlib.Omega.{arith}
+use mathlib.Core.Path.{◌∙◌}
+use lib.{ListN.take, ListN.length-set, Seq.get_or-set_same}
+use Rattle.block.proofs.HeapInBlock.{records_few, fields_few}
+use Rattle.domain.proofs.Values.{value_in}
+use Rattle.placing.proofs.{PlacingHeap.PlacingHeap, PlacingHeap.heap_more, PlacingHeap.heap_all, Positions.placeable_some}
+use borrow.Author.Rules.{rules}
+use Rattle.placing.proofs.place_heap.Given as goal
+
+abbrev pub invariant-loop-k : goal.invariant-loop-k
+invariant-loop-k l =
+    (l.k ≤ l.count) × (l.count ≤ 16) × PlacingHeap (take l.n l.domain) l.heap l.records l.k
+
+abbrev pub decreases-loop-k : goal.decreases-loop-k
+decreases-loop-k l = l.count - l.k
