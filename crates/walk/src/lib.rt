@@ -25,14 +25,14 @@ use unfolding::descend;
 use words::wide;
 
 // Whether what was asked for could be had with free records alone, and the mask of all records taken then.
-#[derive(Drop)]
+#[derive(Clone, Copy)]
 pub struct Taken {
     pub ok: bool,
     pub mask: u16,
 }
 
 // A rule by its place, if there is one, and the mask once its points-to atoms have taken their records.
-#[derive(Drop)]
+#[derive(Clone, Copy)]
 pub struct Choice {
     pub ok: bool,
     pub rule: usize,

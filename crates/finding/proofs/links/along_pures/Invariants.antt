@@ -1,0 +1,19 @@
+-- `along_pures` goes along the conditions one by one.
+use mathlib.Core.Path.{◌≡◌}
+use Prim.Native.Nat.{◌-◌, ◌≤◌}
+use native.Mathlib.Omega.{arith}
+use borrow.Author.Rules.{rules}
+use Rattle.block.specs.Layout.{pure_count, fixed_in}
+use Rattle.block.specs.Ready.{variables_in}
+use Rattle.finding.specs.Values.{Counted}
+use Rattle.finding.specs.Links.{PureMet, PureClosed, AlongEach}
+use Rattle.finding.proofs.Learning.{along_none, along_more}
+use Rattle.finding.proofs.Equalities.{pure_stays}
+use Rattle.finding.proofs.links.along_pures.Given as goal
+
+abbrev pub invariant-loop-k : goal.invariant-loop-k
+invariant-loop-k l =
+    (l.k ≤ l.count) × AlongEach l.k (variables_in l.rules l.rule) (PureMet (fixed_in l.given) l.rules l.rule) (PureClosed l.rules l.rule) l.initial.values l.values × Counted l.values l.left
+
+abbrev pub decreases-loop-k : goal.decreases-loop-k
+decreases-loop-k l = l.count - l.k
