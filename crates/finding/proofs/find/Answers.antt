@@ -10,24 +10,13 @@ use Rattle.finding.proofs.Turns.{Sought, sought_none, sought_more, turn_keeps, s
 use Rattle.finding.proofs.Found.{all_found}
 use Rattle.finding.proofs.find.Goals as goal
 
-abbrev middle : tie.After-along-atoms invariant-loop decreases-loop → List ℕ
-middle c = c.along_pures-some.new.values.1.0
-
-abbrev after : tie.After-along-atoms invariant-loop decreases-loop → List ℕ
-after c = c.along_atoms-left.new.values.1.1.0
-
-abbrev Sought-at : tie.At-loop invariant-loop decreases-loop → List ℕ → Type 0
-Sought-at l values =
-    let g = l.args in
-    Sought (fixed_in g.given.now) g.rules.now g.rule g.heap.now l.begin.new.1.1.0 values
-
 pub begin-unknown-requires : goal.begin-unknown-requires
 begin-unknown-requires c = (shaped c.requires.0, c.requires.2)
 
 pub loop-unknown-init : goal.loop-unknown-init
 loop-unknown-init c =
     let g = c.args in
-    (sought_none (fixed_in g.given.now) g.rules.now g.rule g.heap.now c.begin-unknown.new.values.1.0, c.begin-unknown.ensures.1)
+    (sought_none (fixed_in g.given.now) g.rules.now g.rule g.heap.now c.begin-unknown.new.values, c.begin-unknown.ensures.1)
 
 pub along_pures-some-requires : goal.along_pures-some-requires
 along_pures-some-requires c = (c.requires.0, c.loop-unknown.invariant.1, c.requires.3)
@@ -40,10 +29,11 @@ returns-then-left-unknown c =
     let g = c.args in
     let counted = c.along_atoms-left.ensures.1 in (
       all_found g.given.now g.rules.now g.rule g.heap.now g.values.now c.requires.0 c.requires.2.eight (sym c.requires.2.is)
-          c.begin-unknown.new.values.1.0 (after c) counted.eight c.begin-unknown.ensures.0 ((let sought' : Sought-at c (after c) = let g = c.args in
-          sought_more (fixed_in g.given.now) g.rules.now g.rule g.heap.now c.loop-unknown.values (middle c) (after c) c.along_pures-some.ensures.0 (c.along_atoms-left.ensures.0 (fixed_in g.given.now))
-          c.begin-unknown.new.values.1.0 c.loop-unknown.invariant.0 in sought'))
-          (still_turn (fixed_in g.given.now) g.rules.now g.rule g.heap.now c.loop-unknown.values (middle c) (after c) c.along_pures-some.ensures.0
+          c.begin-unknown.new.values ((let after' : List ℕ = c.along_atoms-left.new.values in after')) counted.eight c.begin-unknown.ensures.0 ((let sought' : (let Sought-at' : List ℕ → Type 0 = λ values. let g = c.args in
+          Sought (fixed_in g.given.now) g.rules.now g.rule g.heap.now c.begin-unknown.new.values values in Sought-at') ((let after' : List ℕ = c.along_atoms-left.new.values in after')) = let g = c.args in
+          sought_more (fixed_in g.given.now) g.rules.now g.rule g.heap.now c.loop-unknown.values ((let middle' : List ℕ = c.along_pures-some.new.values in middle')) ((let after' : List ℕ = c.along_atoms-left.new.values in after')) c.along_pures-some.ensures.0 (c.along_atoms-left.ensures.0 (fixed_in g.given.now))
+          c.begin-unknown.new.values c.loop-unknown.invariant.0 in sought'))
+          (still_turn (fixed_in g.given.now) g.rules.now g.rule g.heap.now c.loop-unknown.values ((let middle' : List ℕ = c.along_pures-some.new.values in middle')) ((let after' : List ℕ = c.along_atoms-left.new.values in after')) c.along_pures-some.ensures.0
           (c.along_atoms-left.ensures.0 (fixed_in g.given.now)) (omega (arith, counted.eight, c.loop-unknown.invariant.1.eight)) (omega (arith, counted.is, c.loop-unknown.invariant.1.is, c.if-left-unknown.true))),
       record { eight = counted.eight; is = omega (arith, counted.is, c.if-left-unknown.true) },
     )
@@ -51,18 +41,19 @@ returns-then-left-unknown c =
 pub loop-unknown-smaller : goal.loop-unknown-smaller
 loop-unknown-smaller c =
     let counted = c.along_atoms-left.ensures.1 in
-    let kept = opens_kept c.loop-unknown.values (after c) (omega (arith, counted.eight, c.loop-unknown.invariant.1.eight)) (λ v h. omega (
+    let kept = opens_kept c.loop-unknown.values ((let after' : List ℕ = c.along_atoms-left.new.values in after')) (omega (arith, counted.eight, c.loop-unknown.invariant.1.eight)) (λ v h. omega (
       arith,
-      (let keeps' : Keeps c.loop-unknown.values (after c) = let g = c.args in
-          turn_keeps (fixed_in g.given.now) g.rules.now g.rule g.heap.now c.loop-unknown.values (middle c) (after c) c.along_pures-some.ensures.0 (c.along_atoms-left.ensures.0 (fixed_in g.given.now)) in keeps') v h,
+      (let keeps' : Keeps c.loop-unknown.values ((let after' : List ℕ = c.along_atoms-left.new.values in after')) = let g = c.args in
+          turn_keeps (fixed_in g.given.now) g.rules.now g.rule g.heap.now c.loop-unknown.values ((let middle' : List ℕ = c.along_pures-some.new.values in middle')) ((let after' : List ℕ = c.along_atoms-left.new.values in after')) c.along_pures-some.ensures.0 (c.along_atoms-left.ensures.0 (fixed_in g.given.now)) in keeps') v h,
     )) in
     omega (arith, kept, counted.is, c.loop-unknown.invariant.1.is, c.if-left-unknown.false)
 
 pub loop-unknown-preserved : goal.loop-unknown-preserved
 loop-unknown-preserved c = (
-  (let sought' : Sought-at c (after c) = let g = c.args in
-      sought_more (fixed_in g.given.now) g.rules.now g.rule g.heap.now c.loop-unknown.values (middle c) (after c) c.along_pures-some.ensures.0 (c.along_atoms-left.ensures.0 (fixed_in g.given.now))
-      c.begin-unknown.new.values.1.0 c.loop-unknown.invariant.0 in sought'),
+  (let sought' : (let Sought-at' : List ℕ → Type 0 = λ values. let g = c.args in
+      Sought (fixed_in g.given.now) g.rules.now g.rule g.heap.now c.begin-unknown.new.values values in Sought-at') ((let after' : List ℕ = c.along_atoms-left.new.values in after')) = let g = c.args in
+      sought_more (fixed_in g.given.now) g.rules.now g.rule g.heap.now c.loop-unknown.values ((let middle' : List ℕ = c.along_pures-some.new.values in middle')) ((let after' : List ℕ = c.along_atoms-left.new.values in after')) c.along_pures-some.ensures.0 (c.along_atoms-left.ensures.0 (fixed_in g.given.now))
+      c.begin-unknown.new.values c.loop-unknown.invariant.0 in sought'),
   c.along_atoms-left.ensures.1,
 )
 
@@ -72,7 +63,7 @@ returns c =
     let counted = c.loop-unknown.invariant.1 in
     let none : c.loop-unknown.unknown ≡ 0 = omega arith in (
       all_found g.given.now g.rules.now g.rule g.heap.now g.values.now c.requires.0 c.requires.2.eight (sym c.requires.2.is)
-          c.begin-unknown.new.values.1.0 c.loop-unknown.values counted.eight c.begin-unknown.ensures.0 c.loop-unknown.invariant.0
+          c.begin-unknown.new.values c.loop-unknown.values counted.eight c.begin-unknown.ensures.0 c.loop-unknown.invariant.0
           (still_all g.rules.now g.rule g.heap.now c.loop-unknown.values (sym counted.is ∙ none)),
       rw (← none) counted,
     )

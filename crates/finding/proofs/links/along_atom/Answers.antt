@@ -11,23 +11,18 @@ use Rattle.finding.proofs.Addresses.{one_record, is_there, is_nowhere}
 use Rattle.finding.proofs.Fields.{along_record}
 use Rattle.finding.proofs.links.along_atom.Goals as goal
 
--- what was read is the entry of the atom's address
-entry_is : (c : tie.After-variable)
-    → let g = c.args in get_or g.values.now (atom_address g.rules.now g.rule g.g) 0 ≡ c.variable-address.result
-entry_is c = sym (rw c.atom_address.ensures at c.variable-address.ensures)
-
 pub variable-address-requires : goal.variable-address-requires
 variable-address-requires c =
     omega (arith, c.atom_address.ensures, c.requires.0.ready.variables_few, c.requires.0.ready.atom_address_lem c.args.g c.requires.1)
 
 pub returns-then-address-ge-OPEN : goal.returns-then-address-ge-OPEN
 returns-then-address-ge-OPEN c =
-    (λ value. along_still (record { fields = λ i h sized known is. absurd (omega (arith, entry_is c, c.if-address-ge-OPEN.true)) }), c.requires.3)
+    (λ value. along_still (record { fields = λ i h sized known is. absurd (omega (arith, (let entry_is' : let g = c.args in get_or g.values.now (atom_address g.rules.now g.rule g.g) 0 ≡ c.variable-address.result = sym (rw c.atom_address.ensures at c.variable-address.ensures) in entry_is'), c.if-address-ge-OPEN.true)) }), c.requires.3)
 
 pub returns-then-record_count-i : goal.returns-then-record_count-i
 returns-then-record_count-i c =
     let past = is_nowhere c.record_at-i.ensures (omega (arith, c.record_count.ensures.0, c.if-record_count-i.true)) in
-    (λ value. along_still (record { fields = λ i h sized known is. absurd (past i h (sym is ∙ entry_is c)) }), c.requires.3)
+    (λ value. along_still (record { fields = λ i h sized known is. absurd (past i h (sym is ∙ (let entry_is' : let g = c.args in get_or g.values.now (atom_address g.rules.now g.rule g.g) 0 ≡ c.variable-address.result = sym (rw c.atom_address.ensures at c.variable-address.ensures) in entry_is'))) }), c.requires.3)
 
 pub record_size-requires : goal.record_size-requires
 record_size-requires c =
@@ -39,7 +34,7 @@ returns-then-record_size-count c =
     let there = is_there c.record_at-i.ensures ((let found_below' : c.record_at-i.result < record_count c.args.heap.now = omega (arith, c.record_count.ensures.0, c.if-record_count-i.false) in found_below')) in (
       λ value. along_still (record {
         fields = λ i h sized known is.
-            let same = one_record heap c.requires.2 c.record_at-i.result i ((let found_below' : c.record_at-i.result < record_count c.args.heap.now = omega (arith, c.record_count.ensures.0, c.if-record_count-i.false) in found_below')) h (there ∙ sym (entry_is c) ∙ is) in
+            let same = one_record heap c.requires.2 c.record_at-i.result i ((let found_below' : c.record_at-i.result < record_count c.args.heap.now = omega (arith, c.record_count.ensures.0, c.if-record_count-i.false) in found_below')) h (there ∙ sym ((let entry_is' : let g = c.args in get_or g.values.now (atom_address g.rules.now g.rule g.g) 0 ≡ c.variable-address.result = sym (rw c.atom_address.ensures at c.variable-address.ensures) in entry_is')) ∙ is) in
             absurd (omega (arith, c.if-record_size-count.true, c.record_size.ensures.0, ap (record_size heap) same, c.atom_size-count.ensures.0));
       }),
       c.requires.3,
@@ -58,9 +53,9 @@ learn_fields-requires c =
 pub returns : goal.returns
 returns c =
     let g = c.args in (
-      λ value. along_record value g.rules.now g.rule g.heap.now g.g c.requires.0 c.requires.1 c.requires.2 g.values.now c.learn_fields.new.values.1.1.1.1.0
+      λ value. along_record value g.rules.now g.rule g.heap.now g.g c.requires.0 c.requires.1 c.requires.2 g.values.now c.learn_fields.new.values
           c.record_at-i.result ((let found_below' : c.record_at-i.result < record_count c.args.heap.now = omega (arith, c.record_count.ensures.0, c.if-record_count-i.false) in found_below'))
-          (omega (arith, entry_is c, c.if-address-ge-OPEN.false)) (entry_is c ∙ sym (is_there c.record_at-i.ensures ((let found_below' : c.record_at-i.result < record_count c.args.heap.now = omega (arith, c.record_count.ensures.0, c.if-record_count-i.false) in found_below'))))
-          (rw (c.atom_fields.ensures, c.atom_size-count.ensures.0) c c.learn_fields.ensures.0),
+          (omega (arith, (let entry_is' : let g = c.args in get_or g.values.now (atom_address g.rules.now g.rule g.g) 0 ≡ c.variable-address.result = sym (rw c.atom_address.ensures at c.variable-address.ensures) in entry_is'), c.if-address-ge-OPEN.false)) ((let entry_is' : let g = c.args in get_or g.values.now (atom_address g.rules.now g.rule g.g) 0 ≡ c.variable-address.result = sym (rw c.atom_address.ensures at c.variable-address.ensures) in entry_is') ∙ sym (is_there c.record_at-i.ensures ((let found_below' : c.record_at-i.result < record_count c.args.heap.now = omega (arith, c.record_count.ensures.0, c.if-record_count-i.false) in found_below'))))
+          (rw (c.atom_fields.ensures, c.atom_size-count.ensures.0) at c.learn_fields.ensures.0),
       c.learn_fields.ensures.1,
     )

@@ -29,7 +29,7 @@ loop-g-preserved c =
     let heap = c.args.heap.now in (
       omega arith,
       λ value. along_more (variables_in rules rule) (AtomHas value rules rule heap) (AtomClosed rules rule heap) (atom_stays rules rule heap) c.loop-g.g c.args.values.now
-          c.loop-g.values c.along_atom-left.new.values.1.1.1.0 (c.loop-g.invariant.1 value) (c.along_atom-left.ensures.0 value),
+          c.loop-g.values c.along_atom-left.new.values (c.loop-g.invariant.1 value) (c.along_atom-left.ensures.0 value),
       c.along_atom-left.ensures.1,
     )
 

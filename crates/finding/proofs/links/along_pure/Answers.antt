@@ -10,16 +10,6 @@ use Rattle.finding.proofs.{Learning.along_still, Known.valued_small}
 use Rattle.finding.proofs.Equalities.{along_right, along_left}
 use Rattle.finding.proofs.links.along_pure.Goals as goal
 
--- what was read of each side is its value
-left_is : (c : tie.After-entry)
-    → let g = c.args in c.entry-x.result ≡ value_of g.values.now (term_as (fixed_in g.given.now) (pure_left g.rules.now g.rule g.k))
-left_is c = rw c.pure_left-left.ensures at c.entry-x.ensures
-
-right_is : (c : tie.After-entry2)
-    → let g = c.args in
-    c.entry-y.result ≡ value_of g.values.now (term_as (fixed_in g.given.now) (pure_right g.rules.now g.rule g.k))
-right_is c = rw c.pure_right-right.ensures at c.entry-y.ensures
-
 pub returns-then-pure_kind-ne0 : goal.returns-then-pure_kind-ne0
 returns-then-pure_kind-ne0 c =
     let other : pure_kind c.args.rules.now c.args.rule c.args.k ≢ 0 = λ e. omega (arith, c.pure_kind.ensures, c.if-pure_kind-ne0.true) in
@@ -36,7 +26,7 @@ learn-requires c =
 pub returns-then-x-lt-OPEN : goal.returns-then-x-lt-OPEN
 returns-then-x-lt-OPEN c =
     let g = c.args in
-    let is = left_is c in (
+    let is = (let left_is' : let g = c.args in c.entry-x.result ≡ value_of g.values.now (term_as (fixed_in g.given.now) (pure_left g.rules.now g.rule g.k)) = rw c.pure_left-left.ensures at c.entry-x.ensures in left_is') in (
       along_right (fixed_in g.given.now) g.rules.now g.rule g.k c.requires.0 c.requires.1 (omega (arith, c.pure_kind.ensures, c.if-pure_kind-ne0.false))
           c.requires.2.eight (omega (arith, is, c.if-x-lt-OPEN.true)) (rw (is, c.pure_right-right.ensures) at c.learn.ensures.0),
       c.learn.ensures.1,
@@ -53,7 +43,8 @@ learn-requires-then-y-lt-OPEN c =
 pub returns-then-y-lt-OPEN : goal.returns-then-y-lt-OPEN
 returns-then-y-lt-OPEN c =
     let g = c.args in
-    let is = right_is c in (
+    let is = (let right_is' : let g = c.args in
+    c.entry-y.result ≡ value_of g.values.now (term_as (fixed_in g.given.now) (pure_right g.rules.now g.rule g.k)) = rw c.pure_right-right.ensures at c.entry-y.ensures in right_is') in (
       along_left (fixed_in g.given.now) g.rules.now g.rule g.k c.requires.0 c.requires.1 (omega (arith, c.pure_kind.ensures, c.if-pure_kind-ne0.false))
           c.requires.2.eight (omega (arith, is, c.if-y-lt-OPEN.true)) (rw (is, c.pure_left-left.ensures) at c.learn-then-y-lt-OPEN.ensures.0),
       c.learn-then-y-lt-OPEN.ensures.1,
@@ -63,8 +54,14 @@ pub returns : goal.returns
 returns c =
     let small = valued_small c.args.values.now (variables_in c.args.rules.now c.args.rule) (fixed_in c.args.given.now) c.requires.0.ready.variables_few in (
       along_still (record {
-        to_right = λ e v. absurd (omega (arith, left_is c, c.if-x-lt-OPEN.false, small _ (c.requires.0.ready.pure_left_lem c.args.k c.requires.1) v));
-        to_left = λ e v. absurd (omega (arith, right_is c, c.if-y-lt-OPEN.false, small _ (c.requires.0.ready.pure_right_lem c.args.k c.requires.1) v));
+        to_right = λ e v. absurd (omega (arith, (let left_is' : let g = c.args in c.entry-x.result ≡ value_of g.values.now (term_as (fixed_in g.given.now) (pure_left g.rules.now g.rule g.k)) = rw c.pure_left-left.ensures at c.entry-x.ensures in left_is'), c.if-x-lt-OPEN.false, small _ (c.requires.0.ready.pure_left_lem c.args.k c.requires.1) v));
+        to_left = λ e v. absurd (omega (
+          arith,
+          (let right_is' : let g = c.args in
+              c.entry-y.result ≡ value_of g.values.now (term_as (fixed_in g.given.now) (pure_right g.rules.now g.rule g.k)) = rw c.pure_right-right.ensures at c.entry-y.ensures in right_is'),
+          c.if-y-lt-OPEN.false,
+          small _ (c.requires.0.ready.pure_right_lem c.args.k c.requires.1) v,
+        ));
       }),
       c.requires.2,
     )

@@ -27,7 +27,7 @@ loop-k-preserved c =
     let rule = c.args.rule in (
       omega arith,
       along_more (variables_in rules rule) (PureMet (fixed_in c.args.given.now) rules rule) (PureClosed rules rule) (pure_stays rules rule) c.loop-k.k c.args.values.now
-          c.loop-k.values c.along_pure-left.new.values.1.1.0 c.loop-k.invariant.1 c.along_pure-left.ensures.0,
+          c.loop-k.values c.along_pure-left.new.values c.loop-k.invariant.1 c.along_pure-left.ensures.0,
       c.along_pure-left.ensures.1,
     )
 
