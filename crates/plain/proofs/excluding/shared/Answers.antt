@@ -8,17 +8,13 @@ use lib.Dec.{ltb}
 use Rattle.words.specs.Told.{Told}
 use Rattle.words.proofs.Answers.{told_true}
 use Rattle.plain.specs.Opposed.{Shared}
-use Rattle.plain.proofs.excluding.shared.Statement.{statement}
-use Rattle.plain.proofs.excluding.shared.Tie as tie
+use Rattle.plain.proofs.excluding.shared.Goals as goal
 
 told-argument : (t w arity : ℕ) → w ≡ t → t < 128 → Told (ltb w arity) (Shared arity t)
 told-argument t w arity e h = record { so = λ q. inl (omega (arith, ltb-true w arity q)); not_so = λ q. ⊎_elim (λ l. omega (arith, ltb-false w arity q)) (λ g. omega arith) }
 
-returns : tie.Need-returns
-returns c = told_true (inr c.if1.true)
+pub returns-then-term-ge128 : goal.returns-then-term-ge128
+returns-then-term-ge128 c = told_true (inr c.if-term-ge128.true)
 
-returns-2 : tie.Need-returns-2
-returns-2 c = told-argument c.before.before.args.term c.wide.result c.before.before.args.arity c.wide.ensures.0 (omega (arith, c.before.if1.false))
-
-pub shared-spec : {M : Type 1} → statement M
-shared-spec = tie.close (tie.spec returns (λ c κs. search rules) returns-2)
+pub returns : goal.returns
+returns c = told-argument c.args.term c.wide.result c.args.arity c.wide.ensures.0 (omega (arith, c.if-term-ge128.false))

@@ -1,0 +1,17 @@
+-- `along_pures` goes along the conditions one by one.
+use borrow.Author.Rules.{rules}
+use mathlib.Core.Path.{◌≡◌}
+use Prim.Native.Nat.{◌-◌, ◌≤◌}
+use native.Mathlib.Omega.{arith}
+use Rattle.block.specs.Layout.{pure_count}
+use Rattle.finding.specs.{Values.Counted, Links.PureClosed}
+use Rattle.finding.proofs.Equalities.{pure_stays}
+use Rattle.plain.specs.Fixing.{AlongEach}
+use Rattle.plain.proofs.Links.{along_none, along_more}
+use Rattle.plain.proofs.fixing.along_pures.Given as goal
+
+abbrev pub invariant-loop-k : goal.invariant-loop-k
+invariant-loop-k l = (l.k ≤ l.count) × AlongEach l.rules l.rule l.k (PureClosed l.rules l.rule) l.initial.values l.values × Counted l.values l.left
+
+abbrev pub decreases-loop-k : goal.decreases-loop-k
+decreases-loop-k l = l.count - l.k
