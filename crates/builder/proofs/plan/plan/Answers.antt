@@ -1,0 +1,44 @@
+-- `plan` goes down from the place asked for. Every marked place from i on has its line, and what those lines call is marked; what a place
+-- calls stands before it, so no mark comes too late.
+use Prim.Native.Nat.{suc, ◌-◌, ◌*◌}
+use mathlib.Core.Path.{◌≡◌, refl, sym, ◌∙◌}
+use native.Mathlib.Omega.{arith}
+use lib.ListN.{length, length-set}
+use Rattle.ground.specs.Failed.{Failed}
+use Rattle.builder.proofs.Planning.{PlannedFrom, planned_start, planned_all, planned_skip, planned_visit}
+use borrow.Author.Rules.{rules}
+use Rattle.builder.proofs.plan.plan.Goals as goal
+
+pub loop-i-init : goal.loop-i-init
+loop-i-init c =
+    (length-set c.args.space.now (3 * c.args.at) 1 ∙ c.requires.0.three, planned_start c.args.space.now c.requires.1 (omega (arith, c.requires.0.place, c.requires.0.three)), c.requires.2, refl)
+
+pub visit-requires : goal.visit-requires
+visit-requires c =
+    let h = c.requires.0 in
+    let l = c.loop-i in
+    (record { represents = h.represents; place = omega (arith, l.invariant.1.upto, h.place, c.loop-i-test.true); lines = h.lines; three = l.invariant.0 }, l.invariant.2)
+
+pub loop-i-preserved-then-space-i-ne0 : goal.loop-i-preserved-then-space-i-ne0
+loop-i-preserved-then-space-i-ne0 c =
+    let l = c.loop-i in
+    let v = c.visit in
+    let e : l.i ≡ suc (l.i - 1) = omega (arith, c.loop-i-test.true) in (
+      v.auto.5 ∙ l.invariant.0,
+      planned_visit (l.i - 1) l.space (omega (arith, l.invariant.1.upto, c.loop-i-test.true)) (rw e at l.invariant.1) v.new.5
+          (omega (arith, l.invariant.0, l.invariant.1.upto, c.requires.0.place)) v.ensures.0 c.if-space-i-ne0.true,
+      v.ensures.1,
+      v.auto.6 ∙ l.invariant.3,
+    )
+
+pub loop-i-preserved : goal.loop-i-preserved
+loop-i-preserved c =
+    let l = c.loop-i in
+    let e : l.i ≡ suc (l.i - 1) = omega (arith, c.loop-i-test.true) in
+    (l.invariant.0, planned_skip (l.i - 1) l.space (omega (arith, l.invariant.1.upto, c.loop-i-test.true)) (rw e at l.invariant.1) c.if-space-i-ne0.false, l.invariant.2, l.invariant.3)
+
+pub returns : goal.returns
+returns c =
+    let l = c.loop-i in
+    let e : l.i ≡ 0 = omega (arith, c.loop-i-test.false) in
+    planned_all (l.invariant.0 ∙ sym c.requires.0.three) (rw e at l.invariant.1)
