@@ -13,8 +13,7 @@ use Rattle.reader.specs.declared.Ladder.{Ladder}
 use Rattle.reader.specs.declared.Ladder.TheVariants.{Accepted, Refused}
 use Rattle.book.specs.BookLayout.{arities_in, RulesRead}
 use Rattle.formats.specs.Refusal.{query_in, QueryRead, Read}
-use Rattle.formats.proofs.read.Statement.{statement}
-use Rattle.formats.proofs.read.Tie as tie
+use Rattle.formats.proofs.read.Goals as goal
 
 -- the question leaves the constants where they were
 rules_same : (rules q q' : List ℕ) → ((i : ℕ) → 2 ≤ i → i < query_place q → get_or q' i 0 ≡ get_or q i 0) → rule_set_read q rules ≡ rule_set_read q' rules
@@ -34,35 +33,22 @@ answered book snapshot question rules heap q query Accepted e s f g l =
     record { is = rw (e, f, g) (ap (λ (set : RuleSet). accepted (record { rule_set = set; heap = heap_in heap; predicate = query_predicate query; values = query_values query })) s); long = l }
 answered book snapshot question rules heap q query (Refused n) e s f g l = record { is = rw (e, f, g); long = l }
 
-all_read : {book snapshot question before rules heap q query : List ℕ} {a r : Ladder} → RulesRead book before rules q a → a ≡ Accepted
+all_read : {book snapshot question before rules heap q query : List ℕ} {r : Ladder} → RulesRead book before rules q Accepted
     → read_snapshot snapshot ≡ accepted (heap_in heap) → QueryRead (arities_in rules) question q query r → length rules ≡ rule_set_size
     → Read book snapshot question rules heap query r
-all_read {book} {snapshot} {question} {rules = rules} {heap} {q} {query} {r = r} read e f g l =
-    answered book snapshot question rules heap q query r (rw e at read.is) (rules_same rules q query g.kept) f g.is l
+all_read {book} {snapshot} {question} {rules = rules} {heap} {q} {query} {r = r} read f g l =
+    answered book snapshot question rules heap q query r read.is (rules_same rules q query g.kept) f g.is l
 
-returns : tie.Need-returns
+pub returns-in-Refused : goal.returns-in-Refused
 unfolding ladder
-returns c = let book = c.before.before.before.read-rules.ensures in record { is = rw (rw c.before.n.given.1 at book.is); long = book.long ∙ search rules }
+returns-in-Refused c = let book = c.in-Refused.ensures in record { is = rw book.is; long = book.long ∙ search rules }
 
-returns-2 : tie.Need-returns-2
+pub returns-in-Refused-read_heap : goal.returns-in-Refused-read_heap
 unfolding ladder
-returns-2 c =
-    let d = c.before.before.before in
-    let book = d.before.before.before.before.read-rules.ensures in record {
-      is = rw (rw d.before.before.enum_told.given.1 at book.is, rw c.before.n2.given.1 at d.read-heap.ensures.is);
-      long = book.long ∙ search rules;
-    }
+returns-in-Refused-read_heap c =
+    let book = c.in-Accepted.ensures in record { is = rw (book.is, c.in-Refused-read_heap.ensures.is); long = book.long ∙ search rules }
 
-returns-3 : tie.Need-returns-3
-returns-3 c =
-    let d = c.before.before.before in
-    let book = d.before.before.before.before.before.before.read-rules.ensures in
-    all_read book d.before.before.before.before.enum_told.given.1 (rw d.enum-told2.given.1 at d.before.before.read-heap.ensures.is)
-    c.read-query.ensures (book.long ∙ search rules)
-
-pub read_spec : {M : Type 1} → statement M
-read_spec =
-    tie.close
-    (tie.spec (λ c κs. search rules) (λ c. search rules) (λ c. search rules) (λ c κs. search rules) (λ c. search rules) (λ c. search rules)
-    (λ c κs. (c.before.before.before.before.before.before.before.before.read-rules.ensures.header, c.before.before.before.before.before.before.before.before.read-rules.ensures.constants_few, c.before.before.before.before.before.before.before.before.read-rules.ensures.query_long)) returns
-    returns-2 returns-3)
+pub returns-in-Accepted-read_heap : goal.returns-in-Accepted-read_heap
+returns-in-Accepted-read_heap c =
+    let book = c.in-Accepted.ensures in
+    all_read book c.in-Accepted-read_heap.ensures.is c.read_query.ensures (book.long ∙ search rules)
