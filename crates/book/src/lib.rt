@@ -1,5 +1,7 @@
 // The book, into the block of a rule set, and its constants into that of the query: places as the layout of the blocks has them. `n` is the
 // number of a rule's variables, and `given` the query's block, where the constants are.
+#![tactic(auto)]
+
 mod parts;
 
 ghost use Rattle.block.specs.Layout.{first_arity, constant_count, first_rule, query_size, rule_set_size, rule_size};

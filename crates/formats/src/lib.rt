@@ -1,4 +1,6 @@
 // From the bytes of book, snapshot and question to the decoded blocks, or to the number of the first fault met; and the house book.
+#![tactic(auto)]
+
 mod question;
 
 ghost use Rattle.std.specs.Prelude.{◌≡◌};

@@ -1,9 +1,7 @@
-pub mod Carry
 pub mod Chain
 pub mod Counting
 pub mod Finishing
 pub mod Keep
 pub mod Left
 pub mod Section
-pub mod Walk
 pub mod Words

@@ -1,9 +1,8 @@
 -- Numbers of four bytes.
-use mathlib.Core.{Logic.◌≢◌, Path.◌≡◌, Path.refl, List.List, List.[], List.◌∷◌}
+use mathlib.Core.{Path.◌≡◌, List.List, List.[], List.◌∷◌}
 use Prim.Native.Nat.{ℕ, ◌+◌, ◌*◌}
 use native.Mathlib.Omega.{arith}
-use borrow.Author.Tests.{eq-eqb, ne_eqb}
-use Rattle.semantics.specs.{Lists.digits, Reader.give, Reader.byte, Reader.word, Formats.end_mark, Formats.as_read, Formats.value}
+use Rattle.semantics.specs.{Lists.digits, Reader.give, Reader.byte, Reader.word, Formats.value}
 use Rattle.reader.specs.{Cursor.Yields, Layout.value_layout, Layout.Any}
 use Rattle.reader.specs.declared.Cursor.{Cursor}
 use Rattle.reader.proofs.{Chain.chain, Chain.done, Chain.become, Section.Local, Section.single_local, Counting.times_none, Counting.times_more}
@@ -21,15 +20,6 @@ word_read {bytes} {c} {c₄ = c₄} {x} {y} {z} {w} short h₁ h₂ h₃ h₄ =
     let t₃ = times_more (byte short) 2 (x ∷ y ∷ []) z t₂ h₃ in
     let t₄ = times_more (byte short) 3 (x ∷ y ∷ z ∷ []) w t₃ h₄ in
     become (word_value x y z w) (chain (λ bs. give (digits 256 bs)) t₄ (done bytes c₄ _))
-
-pub mark_read : (v : ℕ) → v ≡ end_mark → 0 ≡ as_read v
-mark_read v e = rw (eq-eqb v end_mark e, as_read) refl
-
-pub other_read : (v : ℕ) → v ≢ end_mark → v ≡ as_read v
-other_read v n = rw (ne_eqb v end_mark n, as_read) refl
-
-pub value_read : {bytes : List ℕ} {c c₁ : Cursor} {v : ℕ} (short : ℕ) → Yields (word short) bytes c c₁ v → Yields (value short) bytes c c₁ (as_read v)
-value_read {bytes} {c₁ = c₁} short h = chain (λ v. give (as_read v)) h (done bytes c₁ _)
 
 pub value_local : (short : ℕ) → Local (value_layout short)
 value_local short = single_local (value short) (λ v. v) Any

@@ -1,5 +1,7 @@
 // What reading stands on: the cursor, which is a place of the bytes or the first fault met; the reader, which holds the lent bytes and
 // where reading them stands; and the answer at the end. Single bytes are read in `bytes`, numbers of four bytes in `fields`.
+#![tactic(auto)]
+
 pub mod bytes;
 pub mod fields;
 
@@ -39,8 +41,8 @@ pub enum Ladder {
 
 // ---- the reader
 
-// The lent bytes, and where reading them stands. A function over a struct that holds a reference is proved by a walk of its code, so these
-// functions are few and none branches: each takes the reader apart, calls a function on slice and cursor, and hands the reader back moved.
+// The lent bytes, and where reading them stands. A function over a reader takes it apart, calls a function on slice and cursor, and hands
+// the reader back moved.
 #[derive(Drop)]
 pub struct Reader<'a> {
     pub bytes: &'a [u8],

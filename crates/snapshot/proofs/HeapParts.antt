@@ -1,30 +1,19 @@
 -- Records: address, count and fields make a record, and records one after the other, each above the one before, make the heap.
-use mathlib.Core.{Path.◌≡◌, Path.refl, Path.sym, Path.ap, Path.fun_ext, Path.◌∙◌, Logic.◌≢◌, Logic.inl, List.List, List.◌∷◌}
-use Prim.Native.Nat.{ℕ, zero, suc, ◌+◌, ◌*◌, ◌≤◌, ◌<◌}
+use mathlib.Core.{Path.◌≡◌, Path.refl, Path.sym, Path.ap, Path.fun_ext, Path.◌∙◌, Logic.inl, List.List, List.◌∷◌}
+use Prim.Native.Nat.{ℕ, zero, suc, ◌+◌, ◌*◌}
 use native.Mathlib.{Numerals.add-one, Omega.arith}
-use borrow.Author.Tests.{lt-ltb, le-ltb, eq-eqb, ne_eqb}
 use lib.ListN.{get_or}
-use Rattle.semantics.specs.{Heap.Record, Heap.Heap, Reader.Got, Reader.got, Reader.fault, Reader.onward, Reader.◌>>=◌, Reader.give, Reader.word, Reader.counted}
-use Rattle.semantics.specs.Formats.{end_mark, value, is_address, address, records, snapshot}
+use Rattle.semantics.specs.{Heap.Record, Heap.Heap, Reader.Got, Reader.got, Reader.fault, Reader.onward, Reader.◌>>=◌, Reader.give, Reader.counted}
+use Rattle.semantics.specs.Formats.{value, address, records, snapshot}
 use Rattle.words.specs.Entries.{tabulate}
 use Rattle.block.specs.Layout.{record_in, heap_in}
 use Rattle.words.proofs.Tabulate.{tabulate_more}
-use Rattle.reader.specs.{Cursor.Yields, Cursor.stopped, Layout.value_layout, Layout.Fills, Layout.many}
+use Rattle.reader.specs.{Cursor.Yields, Layout.value_layout, Layout.Fills, Layout.many}
 use Rattle.snapshot.specs.HeapLayout.{address_layout, size_layout, record_above, record_layout, records_layout, AfterWord}
 use Rattle.reader.specs.declared.Cursor.{Cursor}
-use Rattle.reader.proofs.Chain.{assoc, chain, done, turn, passed, failed}
+use Rattle.reader.proofs.Chain.{assoc, chain, done, turn}
 use Rattle.reader.proofs.Counting.{threaded, left, left_snoc, threaded_none, threaded_more, ranged_then, counted_read}
 use Rattle.reader.proofs.{Keep.kept_none, Keep.kept_both, Section.ones, Section.entries_same, Section.Local, Section.row_more}
-
--- an address above the one before, one that is not, and the end mark
-pub address_above : {bytes : List ℕ} {c c₁ : Cursor} {v : ℕ} (low : ℕ) → Yields (word 5) bytes c c₁ v → low < v → v ≢ end_mark → Yields (address low) bytes c c₁ v
-address_above {bytes} {c₁ = c₁} {v} low h l n = chain _ h (passed bytes c₁ (is_address low v) 7 v (rw (lt-ltb low v l, ne_eqb v end_mark n) refl))
-
-pub address_off : {bytes : List ℕ} {c c₁ : Cursor} {v : ℕ} (low x : ℕ) → Yields (word 5) bytes c c₁ v → v ≤ low → Yields (address low) bytes c (stopped 7 c₁) x
-address_off {bytes} {c₁ = c₁} {v} low x h l = chain _ h (failed bytes c₁ (is_address low v) 7 v x (rw (le-ltb low v l) refl))
-
-pub address_mark : {bytes : List ℕ} {c c₁ : Cursor} {v : ℕ} (low x : ℕ) → Yields (word 5) bytes c c₁ v → low < v → v ≡ end_mark → Yields (address low) bytes c (stopped 7 c₁) x
-address_mark {bytes} {c₁ = c₁} {v} low x h l e = chain _ h (failed bytes c₁ (is_address low v) 7 v x (rw (lt-ltb low v l, eq-eqb v end_mark e) refl))
 
 pub record_local : (low : ℕ) → Local (record_layout low)
 record_local low = record {

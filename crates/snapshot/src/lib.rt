@@ -1,4 +1,6 @@
 // The snapshot, into a block of 97 numbers.
+#![tactic(auto)]
+
 ghost use Rattle.block.specs.Layout.{first_record, heap_size, record_room};
 ghost use Rattle.std.specs.Prelude.{◌≡◌, ◌+◌, ◌*◌, ◌≤◌, ◌<◌, length};
 ghost use Rattle.snapshot.specs.HeapLayout.{size_layout, record_layout, records_layout, AfterWord, AddressAfter, HeapFills, HeapRead};

@@ -1,8 +1,7 @@
 -- After k turns k values are filled.
-use native.Mathlib.Omega.{arith}
 use Prim.Native.Nat.{◌-◌}
 use Rattle.reader.specs.Layout.{value_layout}
-use Rattle.reader.proofs.{Section.Filled, Section.none, Section.more, Section.whole, Words.value_local}
+use Rattle.reader.proofs.{Section.Filled}
 use Rattle.reader.proofs.fields.values.Given as goal
 
 abbrev pub invariant-loop-k : goal.invariant-loop-k
