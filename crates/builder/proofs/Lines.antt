@@ -123,12 +123,12 @@ module _ (rule_set : RuleSet) (heap : Heap) (domain table : List ℕ) (at : ℕ)
   abbrev placeFor : ℕ → ℕ
   placeFor k = place_of space (suc at) (k - 1)
 
-  place_of : (k : ℕ) → 1 ≤ k → k ≤ count space (suc at) → Numbered space (suc at) (k - 1) (placeFor k)
-  place_of k low high = numbered space (suc at) (k - 1) (omega arith)
+  place_of_lem : (k : ℕ) → 1 ≤ k → k ≤ count space (suc at) → Numbered space (suc at) (k - 1) (placeFor k)
+  place_of_lem k low high = numbered space (suc at) (k - 1) (omega arith)
 
   line_taken : (k : ℕ) → 1 ≤ k → k ≤ count space (suc at) → LineHolds rule_set heap domain words k (positive (called_in (rule_at words k)))
   line_taken k low high =
-      let r = place_of k low high in
+      let r = place_of_lem k low high in
       let i : ℕ = placeFor k in
       let upto : i ≤ at = omega (arith, r.within) in
       let g = d.grounds i upto r.marked in
@@ -138,7 +138,7 @@ module _ (rule_set : RuleSet) (heap : Heap) (domain table : List ℕ) (at : ℕ)
   -- the fact of a line
   line_fact : (k : ℕ) → 1 ≤ k → k ≤ count space (suc at) → fact_at words k ≡ code_at table (placeFor k)
   line_fact k low high =
-      let r = place_of k low high in
+      let r = place_of_lem k low high in
       let e : line_for space (placeFor k) ≡ k = omega (arith, r.is) in
       ap (fact_at words) (sym e) ∙ d.facts (placeFor k) (omega (arith, r.within)) r.marked
 
@@ -147,12 +147,12 @@ module _ (rule_set : RuleSet) (heap : Heap) (domain table : List ℕ) (at : ℕ)
     where
       step : Dec (placeFor j < placeFor k) → placeFor j < placeFor k
       step (yes l) = l
-      step (no z) = absurd (omega (arith, count_rises space (placeFor k) (placeFor j) (omega arith), (place_of j low (omega arith)).is, (place_of k (omega arith) high).is))
+      step (no z) = absurd (omega (arith, count_rises space (placeFor k) (placeFor j) (omega arith), (place_of_lem j low (omega arith)).is, (place_of_lem k (omega arith) high).is))
 
   -- no fact stands twice
   facts_once : (j k : ℕ) → 1 ≤ j → j < k → k ≤ count space (suc at) → fact_at words j ≢ fact_at words k
   facts_once j k low less high e =
-      d.differ (placeFor j) (placeFor k) (places_rise j k low less high) (omega (arith, (place_of k (omega arith) high).within))
+      d.differ (placeFor j) (placeFor k) (places_rise j k low less high) (omega (arith, (place_of_lem k (omega arith) high).within))
       (sym (line_fact j low (omega arith)) ∙ e ∙ line_fact k (omega arith) high)
 
   -- a line before the last is called from further down
@@ -178,7 +178,7 @@ module _ (rule_set : RuleSet) (heap : Heap) (domain table : List ℕ) (at : ℕ)
 
   line_earlier_round : (k : ℕ) → 1 ≤ k → k ≤ count space (suc at) → (l : ℕ) → l among positive (called_in (rule_at words k)) → round_at table (placeFor l) < round_at table (placeFor k)
   line_earlier_round k low high l m =
-      let r = place_of k low high in
+      let r = place_of_lem k low high in
       let i : ℕ = placeFor k in
       let upto : i ≤ at = omega (arith, r.within) in
       let g = d.grounds i upto r.marked in
@@ -186,7 +186,7 @@ module _ (rule_set : RuleSet) (heap : Heap) (domain table : List ℕ) (at : ℕ)
       let m' : l among map (line_for space) g.places = rw (← is_line, called_lines i upto r.marked g) at m in
       let (j, h, q) = Memᴰ.of_map (line_for space) g.places m' in
       let full : mark_at space j ≢ 0 = place_marked i upto r.marked g j h in
-      let s = place_of l (omega arith) (omega (arith, (g.allowed j h).before, count_apart space j (suc at) (omega (arith, (g.allowed j h).before)) full)) in
+      let s = place_of_lem l (omega arith) (omega (arith, (g.allowed j h).before, count_apart space j (suc at) (omega (arith, (g.allowed j h).before)) full)) in
       let same : placeFor l ≡ j = count_same space (placeFor l) j s.marked full (s.is ∙ omega arith) in
       rw same (g.allowed j h).round
 
@@ -210,7 +210,7 @@ module _ (rule_set : RuleSet) (heap : Heap) (domain table : List ℕ) (at : ℕ)
           };
           once = facts_once;
           used = λ k low less.
-              let r = place_of k low (omega arith) in
+              let r = place_of_lem k low (omega arith) in
               let e : line_for space (placeFor k) ≡ k = omega (arith, r.is) in
               let before : placeFor k < at = not_last (placeFor k) (omega (arith, r.within)) (omega (arith, r.is)) in
               let c = called_later (placeFor k) before r.marked in
@@ -219,7 +219,7 @@ module _ (rule_set : RuleSet) (heap : Heap) (domain table : List ℕ) (at : ℕ)
         counted = counted;
         from_table = record {
           place = placeFor;
-          facts = λ k low high. (omega (arith, (place_of k low high).within), line_fact k low high);
+          facts = λ k low high. (omega (arith, (place_of_lem k low high).within), line_fact k low high);
           ordered = places_rise;
           earlier = line_earlier_round;
         };

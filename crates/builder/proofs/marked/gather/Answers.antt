@@ -16,7 +16,7 @@ put-requires c =
 pub loop-i-preserved : goal.loop-i-preserved
 loop-i-preserved c =
     let l = c.loop-i in
-    (elim c.if-line-gt0.branch [ then-line-gt0 w ↦ rw w.9 (gathered_more c.requires.1 (omega arith) l.invariant (omega (arith, w.if-line-gt0.true)) (rw (← w.5.ensures) w.6.ensures)) | else-line-gt0 w ↦ rw w.space-is (gathered_free c.requires.1 (omega arith) l.invariant (omega (arith, w.if-line-gt0.false))) ])
+    (elim c.if-line-gt0.branch [ then-line-gt0 w ↦ rw w.space-is (gathered_more c.requires.1 (omega arith) l.invariant (omega (arith, w.if-line-gt0.true)) (rw (← w.code_of.ensures) w.put.ensures)) | else-line-gt0 w ↦ rw w.space-is (gathered_free c.requires.1 (omega arith) l.invariant (omega (arith, w.if-line-gt0.false))) ])
 
 pub returns : goal.returns
 returns c = gathered_all c.requires.1 (omega arith) c.loop-i.invariant

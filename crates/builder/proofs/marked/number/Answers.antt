@@ -24,7 +24,7 @@ bounds-space-i-then-space-i-ne0-2 c = simp length-set (omega arith)
 pub loop-i-preserved : goal.loop-i-preserved
 loop-i-preserved c =
     let l = c.loop-i in
-    (elim c.if-space-i-ne0.branch [ then-space-i-ne0 w ↦ rw (w.lines-is, w.4) (numbered_more c.requires (omega arith) l.invariant w.if-space-i-ne0.true w.space-is.result w.space-is.ensures) | else-space-i-ne0 w ↦ rw (w.space-is, w.lines-is) (numbered_free c.requires (omega arith) l.invariant w.if-space-i-ne0.false) ])
+    (elim c.if-space-i-ne0.branch [ then-space-i-ne0 w ↦ rw (w.space-is, w.lines-is) (numbered_more c.requires (omega arith) l.invariant w.if-space-i-ne0.true w.renamed-names.result w.renamed-names.ensures) | else-space-i-ne0 w ↦ rw (w.space-is, w.lines-is) (numbered_free c.requires (omega arith) l.invariant w.if-space-i-ne0.false) ])
 
 pub returns : goal.returns
 returns c = numbered_all c.requires (omega arith) c.loop-i.invariant

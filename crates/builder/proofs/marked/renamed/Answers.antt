@@ -6,7 +6,7 @@ use borrow.Author.Rules.{rules}
 use Rattle.builder.proofs.marked.renamed.Goals as goal
 
 pub line_of-first-requires : goal.line_of-first-requires
-line_of-first-requires c = omega (arith, c.called-of.ensures, c.requires 0 (omega arith))
+line_of-first-requires c = omega (arith, c.called_of.ensures, c.requires 0 (omega arith))
 
 pub line_of-second-requires : goal.line_of-second-requires
 line_of-second-requires c = omega (arith, c.called_of-2.ensures, c.requires 1 (omega arith))
@@ -18,4 +18,4 @@ pub returns : goal.returns
 returns c =
     let a = c.args in
     c.rule_word.ensures
-    ∙ renamed_is a.space.now a.names c.rule_of.ensures c.line_of-first.ensures c.called-of.ensures c.line_of-second.ensures c.called_of-2.ensures c.line_of-third.ensures c.called_of-3.ensures
+    ∙ renamed_is a.space.now a.names c.rule_of.ensures c.line_of-first.ensures c.called_of.ensures c.line_of-second.ensures c.called_of-2.ensures c.line_of-third.ensures c.called_of-3.ensures

@@ -24,11 +24,11 @@ loop-i-preserved-then-space-i-ne0 c =
     let l = c.loop-i in
     let v = c.visit in
     let e : l.i ≡ suc (l.i - 1) = omega (arith, c.loop-i-test.true) in (
-      v.auto.5 ∙ l.invariant.0,
-      planned_visit (l.i - 1) l.space (omega (arith, l.invariant.1.upto, c.loop-i-test.true)) (rw e at l.invariant.1) v.new.5
+      v.auto.space ∙ l.invariant.0,
+      planned_visit (l.i - 1) l.space (omega (arith, l.invariant.1.upto, c.loop-i-test.true)) (rw e at l.invariant.1) v.new.space
           (omega (arith, l.invariant.0, l.invariant.1.upto, c.requires.0.place)) v.ensures.0 c.if-space-i-ne0.true,
       v.ensures.1,
-      v.auto.6 ∙ l.invariant.3,
+      v.auto.memory ∙ l.invariant.3,
     )
 
 pub loop-i-preserved : goal.loop-i-preserved
