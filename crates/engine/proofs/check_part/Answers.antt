@@ -1,0 +1,6 @@
+-- The check for the part that is handed in.
+use borrow.Author.Rules.{rules}
+use Rattle.engine.proofs.check_part.Goals as goal
+
+pub returns : goal.returns
+returns c = c.check_for.ensures
