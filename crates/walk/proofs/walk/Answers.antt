@@ -8,15 +8,15 @@ use Rattle.walk.proofs.walk.Goals as goal
 pub respond-requires : goal.respond-requires
 respond-requires c =
     let read = c.read.ensures in (
-      well_formed read c.enum_told-1.given.1,
-      block_long read c.enum_told-1.given.1,
-      constants_fit _ _ _ _ _ _ (is_accepted (rw c.enum_told-1.given.1 at read)) (λ i. omega (arith, c.shared_slice_known-1.given i))
+      well_formed read c.in-Accepted.is,
+      block_long read c.in-Accepted.is,
+      constants_fit _ _ _ _ _ _ (is_accepted (rw c.in-Accepted.is at read)) (λ i. omega (arith, c.shared_slice_known-1.given i))
           (λ i. omega (arith, c.shared_slice_known-2-1.given i)) (λ i. omega (arith, c.shared_slice_known-3-1.given i)),
     )
 
 pub returns-in-Refused : goal.returns-in-Refused
-returns-in-Refused c = unread c.read.ensures c.n-1.given.1 c.refuse.ensures
+returns-in-Refused c = unread c.read.ensures c.in-Refused.is c.refuse.ensures
 
 pub returns-in-Accepted : goal.returns-in-Accepted
 returns-in-Accepted c =
-    answered c.read.ensures c.enum_told-1.given.1 tt c.respond.ensures
+    answered c.read.ensures c.in-Accepted.is tt c.respond.ensures

@@ -13,13 +13,6 @@ use Rattle.walk.specs.Taking.TakesFree.{taken, stuck}
 use Rattle.walk.proofs.TakingRecords.{Wanted, nowhere, only}
 use Rattle.walk.proofs.taking.take_record.Goals as goal
 
--- no other is asked for
-the_one : (c : tie.Else1) (k : ℕ) → let g = c.args in
-    k < length (heap_in g.heap.now) → Wanted (fixed_in g.given.now) g.rules.now g.rule g.g g.values.now g.heap.now k → k ≡ c.record_at-i.result
-the_one c k low w =
-    let g = c.args in
-    only (fixed_in g.given.now) g.rules.now g.rule g.g g.values.now g.heap.now c.requires.2 c.record_at-i.result (below c) (there-is c) k low w
-
 pub variable-requires : goal.variable-requires
 variable-requires c =
     omega (arith, c.atom_address.ensures, c.requires.0.ready.variables_few, c.requires.0.ready.atom_address_lem c.args.g c.requires.1)
@@ -37,11 +30,16 @@ bit-here-requires c = (let few' : c.record_at-i.result < 16 = omega (arith, (let
 
 pub returns-then-shares : goal.returns-then-shares
 returns-then-shares c =
-    stuck refl (λ k low w. rw (the_one c k low w, ← c.bit-here.ensures) (c.shares.ensures.so c.if-shares.true))
+    stuck refl (λ k low w. rw (
+      (let the_one' : (k : ℕ) → let g = c.args in
+          k < length (heap_in g.heap.now) → Wanted (fixed_in g.given.now) g.rules.now g.rule g.g g.values.now g.heap.now k → k ≡ c.record_at-i.result = λ k low w. let g = c.args in
+          only (fixed_in g.given.now) g.rules.now g.rule g.g g.values.now g.heap.now c.requires.2 c.record_at-i.result ((let below' : c.record_at-i.result < record_count c.args.heap.now = omega (arith, c.if-record_count-i.false, c.record_count.ensures.0) in below')) ((let there-is' : record_address c.args.heap.now c.record_at-i.result ≡ (let asks' : ℕ = get_or c.args.values.now (atom_address c.args.rules.now c.args.rule c.args.g) 0 in asks') = is_there c.record_at-i.ensures ((let below' : c.record_at-i.result < record_count c.args.heap.now = omega (arith, c.if-record_count-i.false, c.record_count.ensures.0) in below')) ∙ (let address' : c.variable.result ≡ (let asks' : ℕ = get_or c.args.values.now (atom_address c.args.rules.now c.args.rule c.args.g) 0 in asks') = rw c.atom_address.ensures at c.variable.ensures in address') in there-is')) k low w in the_one') k low w,
+      ← c.bit-here.ensures,
+    ) (c.shares.ensures.so c.if-shares.true))
 
 pub record_matches-requires : goal.record_matches-requires
 record_matches-requires c =
-    (c.requires.0, c.requires.1, (let few' : c.record_at-i.result < 16 = omega (arith, (let below' : c.record_at-i.result < record_count c.args.heap.now = omega (arith, c.if-record_count-i.false, c.record_count.ensures.0) in below'), records_few c.args.heap.now c.requires.2) in few'), (let there-is' : record_address c.args.heap.now c.record_at-i.result ≡ (let asks' : ℕ = get_or c.args.values.now (atom_address c.args.rules.now c.args.rule c.args.g) 0 in asks') = is_there c.record_at-i.ensures ((let below' : c.record_at-i.result < record_count c.args.heap.now = omega (arith, c.if-record_count-i.false, c.record_count.ensures.0) in below')) ∙ (let address' : c.variable.result ≡ asks c = rw c.atom_address.ensures at c.variable.ensures in address') in there-is'), c.requires.3)
+    (c.requires.0, c.requires.1, (let few' : c.record_at-i.result < 16 = omega (arith, (let below' : c.record_at-i.result < record_count c.args.heap.now = omega (arith, c.if-record_count-i.false, c.record_count.ensures.0) in below'), records_few c.args.heap.now c.requires.2) in few'), (let there-is' : record_address c.args.heap.now c.record_at-i.result ≡ (let asks' : ℕ = get_or c.args.values.now (atom_address c.args.rules.now c.args.rule c.args.g) 0 in asks') = is_there c.record_at-i.ensures ((let below' : c.record_at-i.result < record_count c.args.heap.now = omega (arith, c.if-record_count-i.false, c.record_count.ensures.0) in below')) ∙ (let address' : c.variable.result ≡ (let asks' : ℕ = get_or c.args.values.now (atom_address c.args.rules.now c.args.rule c.args.g) 0 in asks') = rw c.atom_address.ensures at c.variable.ensures in address') in there-is'), c.requires.3)
 
 pub overflow_add-result : goal.overflow_add-result
 overflow_add-result c =
@@ -60,4 +58,6 @@ returns c =
     let g = c.args in
     stuck refl
     (λ k low w.
-    absurd (c.record_matches.ensures.not_so c.if-record_matches.false (record_is g.heap.now c.record_at-i.result ((let below' : c.record_at-i.result < record_count c.args.heap.now = omega (arith, c.if-record_count-i.false, c.record_count.ensures.0) in below')) ∙ rw (the_one c k low w) at w)))
+    absurd (c.record_matches.ensures.not_so c.if-record_matches.false (record_is g.heap.now c.record_at-i.result ((let below' : c.record_at-i.result < record_count c.args.heap.now = omega (arith, c.if-record_count-i.false, c.record_count.ensures.0) in below')) ∙ rw ((let the_one' : (k : ℕ) → let g = c.args in
+    k < length (heap_in g.heap.now) → Wanted (fixed_in g.given.now) g.rules.now g.rule g.g g.values.now g.heap.now k → k ≡ c.record_at-i.result = λ k low w. let g = c.args in
+    only (fixed_in g.given.now) g.rules.now g.rule g.g g.values.now g.heap.now c.requires.2 c.record_at-i.result ((let below' : c.record_at-i.result < record_count c.args.heap.now = omega (arith, c.if-record_count-i.false, c.record_count.ensures.0) in below')) ((let there-is' : record_address c.args.heap.now c.record_at-i.result ≡ (let asks' : ℕ = get_or c.args.values.now (atom_address c.args.rules.now c.args.rule c.args.g) 0 in asks') = is_there c.record_at-i.ensures ((let below' : c.record_at-i.result < record_count c.args.heap.now = omega (arith, c.if-record_count-i.false, c.record_count.ensures.0) in below')) ∙ (let address' : c.variable.result ≡ (let asks' : ℕ = get_or c.args.values.now (atom_address c.args.rules.now c.args.rule c.args.g) 0 in asks') = rw c.atom_address.ensures at c.variable.ensures in address') in there-is')) k low w in the_one') k low w) at w)))

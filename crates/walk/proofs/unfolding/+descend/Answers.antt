@@ -16,7 +16,7 @@ pub returns-then-fuel-eq0 : goal.returns-then-fuel-eq0
 returns-then-fuel-eq0 t c = record { outcome = rw c.if-fuel-eq0.true (fuel_stop _ _) }
 
 pub choose-choice-requires : goal.choose-choice-requires
-choose-choice-requires t c = c.requires.1
+choose-choice-requires t c = c.requires
 
 pub call_count-count-requires : goal.call_count-count-requires
 call_count-count-requires t c = (choice_made c.choose-choice.ensures c.if-choice.true).place.formed.inside
@@ -36,16 +36,16 @@ call_arguments-below-requires t c =
       made.place,
       omega (arith, c.loop-c-test.true, c.call_count-count.ensures.0),
       made.all_known,
-      c.requires.1.0.rules_read,
+      c.requires.0.rules_read,
     )
 
 pub descend-next-requires : goal.descend-next-requires
 descend-next-requires t c =
     let f = (choice_made c.choose-choice.ensures c.if-choice.true).place.formed in
     let named = f.ready.call_named c.loop-c.c (omega (arith, c.loop-c-test.true, c.call_count-count.ensures.0)) in (
-      omega (arith, c.requires.0, c.if-fuel-eq0.false),
+      omega (arith, c.decreases, c.if-fuel-eq0.false),
       (
-        c.requires.1.0,
+        c.requires.0,
         omega (arith, named, c.wide-called.ensures.0, c.call_predicate.ensures),
         c.call_arguments-below.ensures.all_known,
       ),
@@ -61,7 +61,7 @@ returns-else-next t c =
     (c.wide-called.ensures.0 ∙ c.call_predicate.ensures) c.call_arguments-below.ensures c.descend-next.ensures c.if-next.false in
     record {
       outcome = rw c.if-next.false
-          (chosen_outcome c.requires.1.0 c.if-fuel-eq0.false made (left_stop c.loop-c.invariant.1 here called));
+          (chosen_outcome c.requires.0 c.if-fuel-eq0.false made (left_stop c.loop-c.invariant.1 here called));
     }
 
 pub loop-c-preserved : goal.loop-c-preserved
@@ -71,7 +71,7 @@ loop-c-preserved t c =
     let called =
     call_outcome g.given.now g.rules.now g.heap.now c.choose-choice.result.rule c.loop-c.c _
     (c.wide-called.ensures.0 ∙ c.call_predicate.ensures) c.call_arguments-below.ensures c.descend-next.ensures c.if-next.true in
-    (omega (arith, c.loop-c-test.true), left_next c.loop-c.invariant.1 here c.requires.1.0.heap_formed.ordered called)
+    (omega (arith, c.loop-c-test.true), left_next c.loop-c.invariant.1 here c.requires.0.heap_formed.ordered called)
 
 -- ---- after it
 pub returns-then-choice : goal.returns-then-choice
@@ -79,7 +79,7 @@ returns-then-choice t c =
     let g = c.args in
     let made = choice_made c.choose-choice.ensures c.if-choice.true in
     let past = calls_past (fixed_in g.given.now) g.rules.now c.choose-choice.result.rule c.loop-c.c (omega (arith, c.call_count-count.ensures.0)) in
-    record { outcome = chosen_outcome c.requires.1.0 c.if-fuel-eq0.false made (left_end c.loop-c.invariant.1 past) }
+    record { outcome = chosen_outcome c.requires.0 c.if-fuel-eq0.false made (left_end c.loop-c.invariant.1 past) }
 
 pub returns : goal.returns
 returns t c = record { outcome = node_stop _ _ (λ plain rule. choice_none c.choose-choice.ensures c.if-choice.false rule plain) }

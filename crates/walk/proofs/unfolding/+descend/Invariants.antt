@@ -17,3 +17,6 @@ invariant-loop-c l =
 
 abbrev pub decreases-loop-c : goal.decreases-loop-c
 decreases-loop-c l = l.count - l.c
+
+abbrev pub decreases-descend : goal.decreases-descend
+decreases-descend l = l.fuel
