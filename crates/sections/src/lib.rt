@@ -7,13 +7,13 @@ use semantics::Reply;
 use words::wide;
 
 // The bytes of a section, from one place up to another.
-#[derive(Drop)]
+#[derive(Clone, Copy)]
 pub struct Section {
     pub from: usize,
     pub upto: usize,
 }
 
-#[derive(Drop)]
+#[derive(Clone, Copy)]
 pub struct Sections {
     pub book: Section,
     pub snapshot: Section,
