@@ -24,24 +24,24 @@ module _ (value : ℕ → ℕ) (rules σ : List ℕ) (at n : ℕ) where
   abbrev pub term_at : ℕ → ℕ
   term_at j = value_of σ (term_as value (get_or rules (at + j) 0))
 
-  abbrev pub termsAt : List ℕ
-  termsAt = values_of σ (map (term_as value) (entries rules at n))
+  abbrev pub terms_at : List ℕ
+  terms_at = values_of σ (map (term_as value) (entries rules at n))
 
-  pub terms_are : termsAt ≡ tabulate n term_at
+  pub terms_are : terms_at ≡ tabulate n term_at
   terms_are = ap (values_of σ) (tabulate-map (term_as value) n (λ j. get_or rules (at + j) 0)) ∙ tabulate-map (value_of σ) n (λ j. term_as value (get_or rules (at + j) 0))
 
-  pub fields_are : (records : List ℕ) (place : ℕ) → (entries records place n ≡ termsAt) ↔ ((j : ℕ) → j < n → get_or records (place + j) 0 ≡ term_at j)
+  pub fields_are : (records : List ℕ) (place : ℕ) → (entries records place n ≡ terms_at) ↔ ((j : ℕ) → j < n → get_or records (place + j) 0 ≡ term_at j)
   fields_are records place = (
     (λ e j h. sym (tabulate_at n (λ i. get_or records (place + i) 0) 0 j h) ∙ ap (λ (l : List ℕ). get_or l j 0) (e ∙ terms_are) ∙ tabulate_at n term_at 0 j h),
     λ h. tabulate_same n (λ j. get_or records (place + j) 0) term_at h ∙ sym terms_are,
   )
 
   -- the value of argument j of a call, and 0 past the last
-  pub argument_at : (j : ℕ) → j < n → term_at j ≡ get_or termsAt j 0
+  pub argument_at : (j : ℕ) → j < n → term_at j ≡ get_or terms_at j 0
   argument_at j h = sym (ap (λ (l : List ℕ). get_or l j 0) terms_are ∙ tabulate_at n term_at 0 j h)
 
-  pub argument_past : (j : ℕ) → n ≤ j → 0 ≡ get_or termsAt j 0
-  argument_past j h = sym (get_or-eq_default termsAt 0 (omega (arith, ap length terms_are, tabulate-length n term_at)))
+  pub argument_past : (j : ℕ) → n ≤ j → 0 ≡ get_or terms_at j 0
+  argument_past j h = sym (get_or-eq_default terms_at 0 (omega (arith, ap length terms_are, tabulate-length n term_at)))
 
 -- ---- a record
 
@@ -60,7 +60,7 @@ module _ (value : ℕ → ℕ) (rules : List ℕ) (rule g : ℕ) (σ records : L
       ∙ tabulate-length (atom_size rules rule g) (λ j. value_of σ (term_as value (atom_field rules rule g j)))
 
   pub record_told : {r : Bool} → record_address records i ≡ get_or σ (atom_address rules rule g) 0 → record_size records i ≡ atom_size rules rule g
-      → Told r (entries records (record_place i + 2) (atom_size rules rule g) ≡ termsAt value rules σ (atom_place rule g + 2) (atom_size rules rule g)) → Told r AsAsked
+      → Told r (entries records (record_place i + 2) (atom_size rules rule g) ≡ terms_at value rules σ (atom_place rule g + 2) (atom_size rules rule g)) → Told r AsAsked
   record_told a c t =
       told_as
       (λ f. ap₂ (λ (x : ℕ) (xs : List ℕ). record { address = x; fields = xs }) a (ap (entries records (record_place i + 2)) c ∙ f))

@@ -68,10 +68,10 @@ module _ {bytes : List ℕ} {c c₁ c₂ cₖ c₃ : Cursor} {b b₁ b₂ b₃ q
       turn (ap (λ (read : Reader ℕ). times (get_or b₁ 0 0) read) is_arguments)
       (become (ones b₂ 8 (get_or b₁ 0 0) ∙ ap (λ (n : ℕ). entries b₂ 8 n) (sym n₂)) arities.reads)
 
-  pub rule-set_fills : {c₄ : Cursor} {b₄ : List ℕ} → length q ≡ query_size → Fills (many (get_or b₃ 1 0) (rule_layout (arities_in b₃) q')) first_rule bytes c₃ b₃ b₄ c₄
+  pub rule_set_fills : {c₄ : Cursor} {b₄ : List ℕ} → length q ≡ query_size → Fills (many (get_or b₃ 1 0) (rule_layout (arities_in b₃) q')) first_rule bytes c₃ b₃ b₄ c₄
       → RuleSetFills bytes c b b₄ q' c₄
   unfolding rule_set_as
-  rule-set_fills {c₄} {b₄} query_long rules = record {
+  rule_set_fills {c₄} {b₄} query_long rules = record {
     reads =
         rw (arities_kept rules.kept (omega arith) header₃.few ∙ arities₃, rules.kept.same 1 (inl (omega arith)))
         (chain _ (predicates_read count₁.reads arities_read)

@@ -7,7 +7,7 @@ use Prim.Native.Nat.{ℕ, zero, suc, ◌+◌, ◌-◌, ◌*◌, ◌%◌, ◌≤�
 use native.Mathlib.{Omega.arith, Decide.dec_lt, Nat.eq-or-lt_of_le}
 use lib.ListN.{length, get_or, length-map}
 use Rattle.semantics.specs.{Lists.◌among◌, Lists.digits, Lists.zeros, RuleSet.RuleSet, RuleSet.WellFormed, Heap.Heap, Fact.fact}
-use Rattle.semantics.proofs.{FixedPoint.same-ground, Taking.called_length}
+use Rattle.semantics.proofs.{FixedPoint.same_ground, Taking.called_length}
 use Rattle.semantics.specs.{Certificate.fact_at, Certificate.positions_at, Certificate.rule_at, Certificate.LineHolds, Contract.padded}
 use Rattle.words.proofs.Digits.{digits-padded}
 use Rattle.table.specs.Layered.{code_at, round_at}
@@ -109,7 +109,7 @@ module _ (rule_set : RuleSet) (heap : Heap) (domain table : List ℕ) (at : ℕ)
     line_holds : LineHolds rule_set heap domain words (line_for space i) (map (line_for space) g.places)
     line_holds = record {
       earlier = line_earlier;
-      ground = same-ground rule_set heap domain (sym (facts_back g.places (λ j m. m))) (d.facts i upto marked) g.ground;
+      ground = same_ground rule_set heap domain (sym (facts_back g.places (λ j m. m))) (d.facts i upto marked) g.ground;
       written = record {
         number = g.number;
         in_rule_set = g.in_rule_set;
@@ -120,39 +120,39 @@ module _ (rule_set : RuleSet) (heap : Heap) (domain table : List ℕ) (at : ℕ)
     }
 
   -- the place of a line
-  abbrev placeFor : ℕ → ℕ
-  placeFor k = place_of space (suc at) (k - 1)
+  abbrev place_for : ℕ → ℕ
+  place_for k = place_of space (suc at) (k - 1)
 
-  place_of_lem : (k : ℕ) → 1 ≤ k → k ≤ count space (suc at) → Numbered space (suc at) (k - 1) (placeFor k)
+  place_of_lem : (k : ℕ) → 1 ≤ k → k ≤ count space (suc at) → Numbered space (suc at) (k - 1) (place_for k)
   place_of_lem k low high = numbered space (suc at) (k - 1) (omega arith)
 
   line_taken : (k : ℕ) → 1 ≤ k → k ≤ count space (suc at) → LineHolds rule_set heap domain words k (positive (called_in (rule_at words k)))
   line_taken k low high =
       let r = place_of_lem k low high in
-      let i : ℕ = placeFor k in
+      let i : ℕ = place_for k in
       let upto : i ≤ at = omega (arith, r.within) in
       let g = d.grounds i upto r.marked in
       let e : line_for space i ≡ k = omega (arith, r.is) in
       rw (← e) (rw (called_lines i upto r.marked g) (line_holds i upto r.marked g))
 
   -- the fact of a line
-  line_fact : (k : ℕ) → 1 ≤ k → k ≤ count space (suc at) → fact_at words k ≡ code_at table (placeFor k)
+  line_fact : (k : ℕ) → 1 ≤ k → k ≤ count space (suc at) → fact_at words k ≡ code_at table (place_for k)
   line_fact k low high =
       let r = place_of_lem k low high in
-      let e : line_for space (placeFor k) ≡ k = omega (arith, r.is) in
-      ap (fact_at words) (sym e) ∙ d.facts (placeFor k) (omega (arith, r.within)) r.marked
+      let e : line_for space (place_for k) ≡ k = omega (arith, r.is) in
+      ap (fact_at words) (sym e) ∙ d.facts (place_for k) (omega (arith, r.within)) r.marked
 
-  places_rise : (j k : ℕ) → 1 ≤ j → j < k → k ≤ count space (suc at) → placeFor j < placeFor k
-  places_rise j k low less high = step (dec_lt (placeFor j) (placeFor k))
+  places_rise : (j k : ℕ) → 1 ≤ j → j < k → k ≤ count space (suc at) → place_for j < place_for k
+  places_rise j k low less high = step (dec_lt (place_for j) (place_for k))
     where
-      step : Dec (placeFor j < placeFor k) → placeFor j < placeFor k
+      step : Dec (place_for j < place_for k) → place_for j < place_for k
       step (yes l) = l
-      step (no z) = absurd (omega (arith, count_rises space (placeFor k) (placeFor j) (omega arith), (place_of_lem j low (omega arith)).is, (place_of_lem k (omega arith) high).is))
+      step (no z) = absurd (omega (arith, count_rises space (place_for k) (place_for j) (omega arith), (place_of_lem j low (omega arith)).is, (place_of_lem k (omega arith) high).is))
 
   -- no fact stands twice
   facts_once : (j k : ℕ) → 1 ≤ j → j < k → k ≤ count space (suc at) → fact_at words j ≢ fact_at words k
   facts_once j k low less high e =
-      d.differ (placeFor j) (placeFor k) (places_rise j k low less high) (omega (arith, (place_of_lem k (omega arith) high).within))
+      d.differ (place_for j) (place_for k) (places_rise j k low less high) (omega (arith, (place_of_lem k (omega arith) high).within))
       (sym (line_fact j low (omega arith)) ∙ e ∙ line_fact k (omega arith) high)
 
   -- a line before the last is called from further down
@@ -176,10 +176,10 @@ module _ (rule_set : RuleSet) (heap : Heap) (domain table : List ℕ) (at : ℕ)
             calls = rw (called_lines j upto marked g) (Memᴰ.map (line_for space) in_places);
           }
 
-  line_earlier_round : (k : ℕ) → 1 ≤ k → k ≤ count space (suc at) → (l : ℕ) → l among positive (called_in (rule_at words k)) → round_at table (placeFor l) < round_at table (placeFor k)
+  line_earlier_round : (k : ℕ) → 1 ≤ k → k ≤ count space (suc at) → (l : ℕ) → l among positive (called_in (rule_at words k)) → round_at table (place_for l) < round_at table (place_for k)
   line_earlier_round k low high l m =
       let r = place_of_lem k low high in
-      let i : ℕ = placeFor k in
+      let i : ℕ = place_for k in
       let upto : i ≤ at = omega (arith, r.within) in
       let g = d.grounds i upto r.marked in
       let is_line : line_for space i ≡ k = omega (arith, r.is) in
@@ -187,7 +187,7 @@ module _ (rule_set : RuleSet) (heap : Heap) (domain table : List ℕ) (at : ℕ)
       let (j, h, q) = Memᴰ.of_map (line_for space) g.places m' in
       let full : mark_at space j ≢ 0 = place_marked i upto r.marked g j h in
       let s = place_of_lem l (omega arith) (omega (arith, (g.allowed j h).before, count_apart space j (suc at) (omega (arith, (g.allowed j h).before)) full)) in
-      let same : placeFor l ≡ j = count_same space (placeFor l) j s.marked full (s.is ∙ omega arith) in
+      let same : place_for l ≡ j = count_same space (place_for l) j s.marked full (s.is ∙ omega arith) in
       rw same (g.allowed j h).round
 
   -- The certificate.
@@ -211,14 +211,14 @@ module _ (rule_set : RuleSet) (heap : Heap) (domain table : List ℕ) (at : ℕ)
           once = facts_once;
           used = λ k low less.
               let r = place_of_lem k low (omega arith) in
-              let e : line_for space (placeFor k) ≡ k = omega (arith, r.is) in
-              let before : placeFor k < at = not_last (placeFor k) (omega (arith, r.within)) (omega (arith, r.is)) in
-              let c = called_later (placeFor k) before r.marked in
+              let e : line_for space (place_for k) ≡ k = omega (arith, r.is) in
+              let before : place_for k < at = not_last (place_for k) (omega (arith, r.within)) (omega (arith, r.is)) in
+              let c = called_later (place_for k) before r.marked in
               (c.line, omega (arith, c.later), c.within, Memᴰ.cast (sym e) c.calls);
         };
         counted = counted;
         from_table = record {
-          place = placeFor;
+          place = place_for;
           facts = λ k low high. (omega (arith, (place_of_lem k low high).within), line_fact k low high);
           ordered = places_rise;
           earlier = line_earlier_round;

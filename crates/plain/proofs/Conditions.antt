@@ -8,14 +8,14 @@ use Rattle.plain.proofs.{Seats.entry_image, Merging.joined_merged}
 
 module _ (given rules : List ℕ) (at shared k : ℕ) {left right x y : ℕ} (is-left : left ≡ pure_left rules at k) (is_right : right ≡ pure_right rules at k) (classes : List ℕ)
     (is_x : x ≡ entry_by (fixed_in given) shared (entries_of classes) left) (is_y : y ≡ entry_by (fixed_in given) shared (entries_of classes) right) where
-  abbrev sideBy : (ℕ → ℕ) → ℕ → ℕ
-  sideBy σ t = entry_by (fixed_in given) shared σ t
+  abbrev side_by : (ℕ → ℕ) → ℕ → ℕ
+  side_by σ t = entry_by (fixed_in given) shared σ t
 
-  x_left : x ≡ sideBy (entries_of classes) (pure_left rules at k)
-  x_left = is_x ∙ ap (sideBy (entries_of classes)) is-left
+  x_left : x ≡ side_by (entries_of classes) (pure_left rules at k)
+  x_left = is_x ∙ ap (side_by (entries_of classes)) is-left
 
-  y_right : y ≡ sideBy (entries_of classes) (pure_right rules at k)
-  y_right = is_y ∙ ap (sideBy (entries_of classes)) is_right
+  y_right : y ≡ side_by (entries_of classes) (pure_right rules at k)
+  y_right = is_y ∙ ap (side_by (entries_of classes)) is_right
 
   pub entries_apart : x ≢ y → UnequalMet (fixed_in given) rules at shared k (entries_of classes)
   entries_apart n kind e = n (x_left ∙ e ∙ sym y_right)
@@ -24,12 +24,12 @@ module _ (given rules : List ℕ) (at shared k : ℕ) {left right x y : ℕ} (is
   entries_same e n u = u n (sym x_left ∙ e ∙ y_right)
 
   module _ (f : FormedRead given rules at) (h : k < pure_count rules at) (is : pure_kind rules at k ≡ 0) where
-    left_image : (σ : ℕ → ℕ) (w : Follows σ classes) → sideBy σ (pure_left rules at k) ≡ w.image x
+    left_image : (σ : ℕ → ℕ) (w : Follows σ classes) → side_by σ (pure_left rules at k) ≡ w.image x
     left_image σ w =
         entry_image (fixed_in given) shared (variables_in rules at) (pure_left rules at k) f.ready.variables_few (f.ready.pure_left_lem k h) σ classes w
         ∙ ap w.image (sym x_left)
 
-    right_image : (σ : ℕ → ℕ) (w : Follows σ classes) → sideBy σ (pure_right rules at k) ≡ w.image y
+    right_image : (σ : ℕ → ℕ) (w : Follows σ classes) → side_by σ (pure_right rules at k) ≡ w.image y
     right_image σ w =
         entry_image (fixed_in given) shared (variables_in rules at) (pure_right rules at k) f.ready.variables_few (f.ready.pure_right_lem k h) σ classes w
         ∙ ap w.image (sym y_right)

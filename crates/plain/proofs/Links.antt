@@ -101,7 +101,7 @@ module _ {Fixed : ℕ → Type 0} {rules : List ℕ} {at : ℕ} (f : FormedRule 
 
   -- ---- along an atom
 
-  module _ (g : ℕ) (h : g < atom_count rules at) (address place size : ℕ) (is_Address : address ≡ atom_address rules at g) (is_place : place ≡ atom_place at g + 2)
+  module _ (g : ℕ) (h : g < atom_count rules at) (address place size : ℕ) (is_address : address ≡ atom_address rules at g) (is_place : place ≡ atom_place at g + 2)
       (is-size : size ≡ atom_size rules at g) (before after : List ℕ) (p : Passes rules address place size before after) where
     field_there : (j : ℕ) → get_or rules (place + j) 0 ≡ atom_field rules at g j
     field_there j = ap (λ (i : ℕ). get_or rules (i + j) 0) is_place
@@ -110,8 +110,8 @@ module _ {Fixed : ℕ → Type 0} {rules : List ℕ} {at : ℕ} (f : FormedRule 
     along_fields = record {
       keeps = pass_keeps rules address place size before after p;
       sound = pass_sound rules address place size before after at Fixed f.ready.variables_few (inl (omega (arith, f.ready.atom_address_lem g h)))
-          (λ x j l. rw (field_there j) (FixedByte.of_field g j h (omega arith) (rw is_Address at x))) p;
-      closed = λ v j l. rw (field_there j) at (pass_leads rules address place size before after p (rw is_Address v) j (omega arith));
+          (λ x j l. rw (field_there j) (FixedByte.of_field g j h (omega arith) (rw is_address at x))) p;
+      closed = λ v j l. rw (field_there j) at (pass_leads rules address place size before after p (rw is_address v) j (omega arith));
     }
 
 -- ---- links one after the other

@@ -21,45 +21,45 @@ module _ (rule_set : RuleSet) (heap : Heap) (domain words : List ℕ) where
   abbrev pub calls_of : ℕ → List ℕ
   calls_of k = digits_of 65536 (length (rule_of k).calls) (rule_at words k / 256)
 
-  unfoldable pub callsTest : List ℕ → List Call → List ℕ → Bool
-  callsTest σ [] [] = true
-  callsTest σ [] (f ∷ fs) = false
-  callsTest σ (c ∷ cs) [] = false
-  callsTest σ (c ∷ cs) (f ∷ fs) = both (eqb f (fact domain c.predicate (values_of σ c.arguments) (part_of f))) (callsTest σ cs fs)
+  unfoldable pub calls_test : List ℕ → List Call → List ℕ → Bool
+  calls_test σ [] [] = true
+  calls_test σ [] (f ∷ fs) = false
+  calls_test σ (c ∷ cs) [] = false
+  calls_test σ (c ∷ cs) (f ∷ fs) = both (eqb f (fact domain c.predicate (values_of σ c.arguments) (part_of f))) (calls_test σ cs fs)
 
   -- the facts that the rule gives with these values and called facts
   unfoldable pub conclusions : Rule → List ℕ → List ℕ → List ℕ → List ℕ
   conclusions rule arguments bound called =
       flat_map (λ (is : List ℕ). map (fact domain rule.head arguments) (joined (map (λ (i : ℕ). 2 ^ i) is ++ map part_of called))) (takings heap (arguments ++ bound) rule.points_to)
 
-  unfoldable pub earlierTest : ℕ → ℕ → Bool
-  earlierTest k l = both (leb 1 l) (ltb l k)
+  unfoldable pub earlier_test : ℕ → ℕ → Bool
+  earlier_test k l = both (leb 1 l) (ltb l k)
 
-  unfoldable pub positionTest : ℕ → Bool
-  positionTest p = ltb p (length domain)
+  unfoldable pub position_test : ℕ → Bool
+  position_test p = ltb p (length domain)
 
-  unfoldable pub lineTest : ℕ → ℕ → Rule → List ℕ → List ℕ → List ℕ → List ℕ → Bool
-  lineTest k number rule positions arguments bound lines =
+  unfoldable pub line_test : ℕ → ℕ → Rule → List ℕ → List ℕ → List ℕ → List ℕ → Bool
+  line_test k number rule positions arguments bound lines =
       both (ltb number (length rule_set.rules))
       (both (eqb (positions_at words k) (digits 256 positions))
-      (both (every positionTest positions)
+      (both (every position_test positions)
       (both (eqb (rule_at words k) (number + 256 * digits 65536 lines))
-      (both (every (earlierTest k) lines)
+      (both (every (earlier_test k) lines)
       (both (meets_all (arguments ++ bound) rule.pures)
-      (both (callsTest (arguments ++ bound) rule.calls (map (fact_at words) lines))
+      (both (calls_test (arguments ++ bound) rule.calls (map (fact_at words) lines))
       (member (fact_at words k) (conclusions rule arguments bound (map (fact_at words) lines)))))))))
 
-  unfoldable pub takesLine : ℕ → Bool
-  takesLine k =
-      lineTest k (rule_at words k % 256) (rule_of k) (positions_of k) (take (arity rule_set (rule_of k).head) (values_at k)) (drop (arity rule_set (rule_of k).head) (values_at k)) (calls_of k)
+  unfoldable pub takes_line : ℕ → Bool
+  takes_line k =
+      line_test k (rule_at words k % 256) (rule_of k) (positions_of k) (take (arity rule_set (rule_of k).head) (values_at k)) (drop (arity rule_set (rule_of k).head) (values_at k)) (calls_of k)
 
   -- lines 1 to n
-  unfoldable pub takesLines : ℕ → Bool
-  takesLines zero = true
-  takesLines (suc n) = both (takesLine (suc n)) (takesLines n)
+  unfoldable pub takes_lines : ℕ → Bool
+  takes_lines zero = true
+  takes_lines (suc n) = both (takes_line (suc n)) (takes_lines n)
 
   unfoldable pub takes : ℕ → List ℕ → ℕ → Bool
   takes predicate values part =
       let count = length words / 3 in
       both (leb 1 count) (both (leb count 65535) (both (eqb (length words) (3 * count))
-      (both (takesLines count) (eqb (fact_at words count) (fact domain predicate values part)))))
+      (both (takes_lines count) (eqb (fact_at words count) (fact domain predicate values part)))))

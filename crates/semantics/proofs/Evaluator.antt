@@ -83,43 +83,43 @@ pub record Step : Type 0 where
 
 module _ (rule_set : RuleSet) (heap : Heap) (values : List ℕ) where
   -- the steps by one rule: first the arguments, then the bound values, the test, the records, the facts called
-  unfoldable pub byFacts : Rule → List ℕ → List ℕ → List ℕ → List Step
-  byFacts rule arguments is fs =
+  unfoldable pub by_facts_lem : Rule → List ℕ → List ℕ → List ℕ → List Step
+  by_facts_lem rule arguments is fs =
       map (λ (part : ℕ). record { conclusion = fact values rule.head arguments part; called = fs }) (joined (map (λ (i : ℕ). 2 ^ i) is ++ map part_of fs))
 
-  unfoldable pub byRecords : List ℕ → Rule → List ℕ → List ℕ → List ℕ → List Step
-  byRecords table rule arguments bound is =
-      flat_map (byFacts rule arguments is) (callings values (arguments ++ bound) table rule.calls)
+  unfoldable pub by_records_lem : List ℕ → Rule → List ℕ → List ℕ → List ℕ → List Step
+  by_records_lem table rule arguments bound is =
+      flat_map (by_facts_lem rule arguments is) (callings values (arguments ++ bound) table rule.calls)
 
-  unfoldable pub byTest : List ℕ → Rule → List ℕ → List ℕ → Bool → List Step
-  byTest table rule arguments bound passed =
-      flat_map (byRecords table rule arguments bound) (takings heap (arguments ++ bound) rule.points_to)
+  unfoldable pub by_test : List ℕ → Rule → List ℕ → List ℕ → Bool → List Step
+  by_test table rule arguments bound passed =
+      flat_map (by_records_lem table rule arguments bound) (takings heap (arguments ++ bound) rule.points_to)
 
-  unfoldable pub byValues : List ℕ → Rule → List ℕ → List ℕ → List Step
-  byValues table rule arguments bound =
-      flat_map (byTest table rule arguments bound) (when (meets_all (arguments ++ bound) rule.pures) true)
+  unfoldable pub by_values : List ℕ → Rule → List ℕ → List ℕ → List Step
+  by_values table rule arguments bound =
+      flat_map (by_test table rule arguments bound) (when (meets_all (arguments ++ bound) rule.pures) true)
 
-  unfoldable pub byArguments : List ℕ → Rule → List ℕ → List Step
-  byArguments table rule arguments = flat_map (byValues table rule arguments) (assignments rule.bound values)
+  unfoldable pub by_arguments : List ℕ → Rule → List ℕ → List Step
+  by_arguments table rule arguments = flat_map (by_values table rule arguments) (assignments rule.bound values)
 
-  unfoldable pub byRule : List ℕ → Rule → List Step
-  byRule table rule = flat_map (byArguments table rule) (assignments (arity rule_set rule.head) values)
+  unfoldable pub by_rule : List ℕ → Rule → List Step
+  by_rule table rule = flat_map (by_arguments table rule) (assignments (arity rule_set rule.head) values)
 
   -- all steps from a table
   unfoldable pub steps : List ℕ → List Step
-  steps table = flat_map (byRule table) rule_set.rules
+  steps table = flat_map (by_rule table) rule_set.rules
 
   -- what follows in one step, with repeats
   unfoldable pub following : List ℕ → List ℕ
   following table = map (λ (s : Step). s.conclusion) (steps table)
 
   -- the next round
-  unfoldable pub newFacts : List ℕ → List ℕ
-  newFacts table = ascending (drop_known table (following table))
+  unfoldable pub new_facts : List ℕ → List ℕ
+  new_facts table = ascending (drop_known table (following table))
 
   -- the rounds until nothing is new
   unfoldable pub run : ℕ → ℕ → List ℕ → Run
   run zero r table = record { finished = false; rounds = r; table = table }
   run (suc fuel) r table =
-      let new = newFacts table in
+      let new = new_facts table in
       elim new [ [] ↦ record { finished = true; rounds = r; table = table } | f ∷ fs ↦ run fuel (suc r) (table ++ (f ∷ fs)) ]

@@ -13,7 +13,7 @@ use Rattle.semantics.specs.{Tree.ByHand, Domain.domain, Fact.position, Fact.fact
 use Rattle.semantics.specs.Rounds.{Ground, Complete, After, Holds, AllHold}
 use Rattle.semantics.specs.Certificate.{fact_at, LineHolds, Trimmed}
 use Rattle.semantics.proofs.{Bits.dec_in, Bits.in_rest, Coding.spot, DomainFacts.query-good}
-use Rattle.semantics.proofs.FixedPoint.{same-ground, holds_closed, table_holds, holding_counted}
+use Rattle.semantics.proofs.FixedPoint.{same_ground, holds_closed, table_holds, holding_counted}
 use Rattle.semantics.proofs.{Verdict.completeness, LineCount.leave, LineCount.leave_in, LineCount.leave_out}
 
 module _ (rule_set : RuleSet) (heap : Heap) (values : List ℕ) where
@@ -139,22 +139,22 @@ module _ (rule_set : RuleSet) (heap : Heap) (values : List ℕ) where
       (λ q. let (g, m, e) = line_fact fs d k low (omega arith) in (g, Memᴰ.tail m, line_tail f g fs (λ p. n (Memᴰ.cast (sym p) m)) ∙ e))
 
   -- the three words of a fact
-  wordsFor : (f : ℕ) (fs called : List ℕ) → Ground rule_set heap values called f → List ℕ
-  wordsFor f fs called g =
+  words_for : (f : ℕ) (fs called : List ℕ) → Ground rule_set heap values called f → List ℕ
+  words_for f fs called g =
       f ∷ digits 256 (map (position values) (g.arguments ++ g.bound)) ∷ ((spot blank_rule g.applies.listed).0 + 256 * digits 65536 (map (line_of fs) called)) ∷ []
 
   words_of : {fs : List ℕ} → Built fs → List ℕ
   words_of Built.none = []
-  words_of (Built.more {f = f} {fs = fs} called g k n b) = words_of b ++ wordsFor f fs called g
+  words_of (Built.more {f = f} {fs = fs} called g k n b) = words_of b ++ words_for f fs called g
 
   calls_of : {fs : List ℕ} → Built fs → ℕ → List ℕ
   calls_of Built.none l = []
   calls_of (Built.more {fs = fs} called g k n b) l = elim (eqb l (suc (length fs))) [ true ↦ map (line_of fs) called | false ↦ calls_of b l ]
 
   words_length : {fs : List ℕ} (b : Built fs) → length (words_of b) ≡ 3 * length fs
-  unfolding words_of wordsFor
+  unfolding words_of words_for
   words_length Built.none = refl
-  words_length (Built.more {f = f} {fs = fs} called g k n b) = omega (arith, length-append (words_of b) (wordsFor f fs called g), words_length b)
+  words_length (Built.more {f = f} {fs = fs} called g k n b) = omega (arith, length-append (words_of b) (words_for f fs called g), words_length b)
 
   -- a longer list with the same words so far
   abbrev Agrees : List ℕ → List ℕ → Type 0
@@ -169,13 +169,13 @@ module _ (rule_set : RuleSet) (heap : Heap) (values : List ℕ) where
   module _ (words : List ℕ) where
     -- the fact of a line is where it should be
     fact_there : {fs : List ℕ} (b : Built fs) → Agrees words (words_of b) → (g : ℕ) → g among fs → fact_at words (line_of fs g) ≡ g
-    unfolding words_of wordsFor
+    unfolding words_of words_for
     fact_there Built.none a g m = absurd (Memᴰ.not-nil m)
     fact_there (Built.more {f = f} {fs = fs} called gr k n b) a g m =
         by_cases (ℕ_discrete g f)
         (λ e. rw (e, line_head f fs)
-        (ap (λ (i : ℕ). get_or words i 0) (omega (arith, words_length b)) ∙ agrees_newest words (words_of b) (wordsFor f fs called gr) a 0 (omega arith)))
-        (λ d. ap (fact_at words) (line_tail f g fs d) ∙ fact_there b (agrees_older words (words_of b) (wordsFor f fs called gr) a) g (in_rest d m))
+        (ap (λ (i : ℕ). get_or words i 0) (omega (arith, words_length b)) ∙ agrees_newest words (words_of b) (words_for f fs called gr) a 0 (omega arith)))
+        (λ d. ap (fact_at words) (line_tail f g fs d) ∙ fact_there b (agrees_older words (words_of b) (words_for f fs called gr) a) g (in_rest d m))
 
     -- the facts of the lines called are the facts called
     facts_back : {fs : List ℕ} (b : Built fs) → Agrees words (words_of b) → (called : List ℕ) → ((g : ℕ) → g among called → g among fs)
@@ -186,11 +186,11 @@ module _ (rule_set : RuleSet) (heap : Heap) (values : List ℕ) where
 
     -- the newest line
     newest_taken : (f : ℕ) (fs called : List ℕ) (g : Ground rule_set heap values called f) (b : Built fs) → ((h : ℕ) → h among called → h among fs)
-        → Agrees words (words_of b ++ wordsFor f fs called g) → LineHolds rule_set heap values words (suc (length fs)) (map (line_of fs) called)
-    unfolding wordsFor
+        → Agrees words (words_of b ++ words_for f fs called g) → LineHolds rule_set heap values words (suc (length fs)) (map (line_of fs) called)
+    unfolding words_for
     newest_taken f fs called g b k a =
-        let older = agrees_older words (words_of b) (wordsFor f fs called g) a in
-        let at = agrees_newest words (words_of b) (wordsFor f fs called g) a in
+        let older = agrees_older words (words_of b) (words_for f fs called g) a in
+        let at = agrees_newest words (words_of b) (words_for f fs called g) a in
         let back = facts_back b older called k in
         let s = spot blank_rule g.applies.listed in
         record {
@@ -198,7 +198,7 @@ module _ (rule_set : RuleSet) (heap : Heap) (values : List ℕ) where
               let (h, i, e) = Memᴰ.of_map (line_of fs) called m in
               let (low, high) = line_bounds fs h (k h i) in
               (omega arith, omega arith);
-          ground = same-ground rule_set heap values (sym back) (ap (λ (i : ℕ). get_or words i 0) (omega (arith, words_length b)) ∙ at 0 (omega arith)) g;
+          ground = same_ground rule_set heap values (sym back) (ap (λ (i : ℕ). get_or words i 0) (omega (arith, words_length b)) ∙ at 0 (omega arith)) g;
           written = record {
             number = s.0;
             in_rule_set = s.1;
@@ -213,7 +213,7 @@ module _ (rule_set : RuleSet) (heap : Heap) (values : List ℕ) where
     line_taken Built.none a k low high = absurd (omega arith)
     line_taken (Built.more {f = f} {fs = fs} called g kk n b) a k low high =
         by_cases (ℕ_discrete k (suc (length fs))) (λ e. rw (eq-eqb k (suc (length fs)) e, calls_of, e) (newest_taken f fs called g b kk a))
-        (λ d. rw (ne_eqb k (suc (length fs)) d, calls_of) (line_taken b (agrees_older words (words_of b) (wordsFor f fs called g) a) k low (omega arith)))
+        (λ d. rw (ne_eqb k (suc (length fs)) d, calls_of) (line_taken b (agrees_older words (words_of b) (words_for f fs called g) a) k low (omega arith)))
 
   -- a fact that is called is called by a later line
   record CalledLine (fs : List ℕ) (b : Built fs) (g : ℕ) : Type 0 where

@@ -251,8 +251,8 @@ module _ (B : ℕ → Type 0) where
       pub formed : WellFormed r
       pub constants : Each R r.constants
 
-    rule-set_gives : Gives RuleSetRead rule_set
-    rule-set_gives =
+    rule_set_gives : Gives RuleSetRead rule_set
+    rule_set_gives =
         chain AritiesRead RuleSetRead predicates _ predicates_gives λ arities ha.
         chain (Few R _) RuleSetRead constants _ (counted_gives R 1 2 _ (value 1) (omega arith) (omega arith) (value_gives 1 (omega arith))) λ cs hc.
         chain (Few (RuleRead cs arities) 16) RuleSetRead (counted 1 2 16 (rule arities cs)) _
@@ -355,7 +355,7 @@ module _ (B W R : ℕ → Type 0) (known : Known B W R) where
   ladder_yields : (b s q : List ℕ) → Each B b → Each B s → Each B q → Yields (LadderRead R) (ladder b s q)
   unfolding ladder read_rule_set read_snapshot read_query
   ladder_yields b s q eb es eq =
-      then_yields (RuleSetRead B W R known) (LadderRead R) _ (read_rule_set b) (all_yields B (RuleSetRead B W R known) _ (rule_set b) (omega arith) (rule-set_gives B W R known b eb)) λ r hr.
+      then_yields (RuleSetRead B W R known) (LadderRead R) _ (read_rule_set b) (all_yields B (RuleSetRead B W R known) _ (rule_set b) (omega arith) (rule_set_gives B W R known b eb)) λ r hr.
       then_yields (SnapshotRead B W R known) (LadderRead R) _ (read_snapshot s) (all_yields B (SnapshotRead B W R known) _ (snapshot s) (omega arith) (snapshot_gives B W R known s es)) λ h hh.
       then_yields (QueryRead B W R known r.arities) (LadderRead R) _ (read_query r.arities q) (all_yields B (QueryRead B W R known r.arities) _ (query r.arities q) (omega arith) (query_gives B W R known r.arities q eq)) λ qu hq.
       record {

@@ -9,7 +9,7 @@ use Rattle.semantics.specs.{Lists.◌among◌, Lists.Distinct, RuleSet.Call, Rul
 use Rattle.semantics.specs.{Heap.Heap, Heap.whole_of, Heap.Joins, Formats.Valid, Tree.Forest, Tree.ByHand, Tree.Fits, Domain.domain, Fact.fact, Fact.part_of}
 use Rattle.semantics.specs.{Rounds.Called, Certificate.fact_at, Certificate.LineHolds, Certificate.Certificate, Certificate.OpensAll, Certificate.Opened}
 use Rattle.semantics.proofs.{Bits.whole_below, Parts.small_part, Limits.Limits, DomainFacts.good_is_domain, DomainFacts.query-good}
-use Rattle.semantics.proofs.Soundness.{Stands, Trees, shown_of, ScopedCall, call_shown, trees-next, variables-counted, calls_in_scope, calls_join, node_over, head_stands}
+use Rattle.semantics.proofs.Soundness.{Stands, Trees, shown_of, ScopedCall, call_shown, trees_next, variables-counted, calls_in_scope, calls_join, node_over, head_stands}
 use Rattle.semantics.proofs.Verdict.{limits, whole_fits}
 
 module _ (rule_set : RuleSet) (heap : Heap) (domain words : List ℕ) (limits : Limits rule_set heap domain) where
@@ -32,7 +32,7 @@ module _ (rule_set : RuleSet) (heap : Heap) (domain words : List ℕ) (limits : 
         (scope call (Memᴰ.head refl)) e (stands l (Memᴰ.head refl)) in
         let t = opened_all ls rest (λ c k. scope c (Memᴰ.tail k)) (λ h k. stands h (Memᴰ.tail k)) j in
         record {
-          trees = trees-next rule_set heap domain limits n σ long keeps call calls (part_of (fact_at words l)) m whole
+          trees = trees_next rule_set heap domain limits n σ long keeps call calls (part_of (fact_at words l)) m whole
               (record { taken = b.taken; tree = b.tree; once = b.once; part_taken = b.part_taken }) a w t.trees;
           opens = (l, ls, refl, b.opens, t.opens);
         }

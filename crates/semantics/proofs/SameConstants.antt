@@ -75,9 +75,9 @@ module _ {a b : RuleSet} (same : SameRules a b) where
       };
     }
 
-    abbrev certificate-same : {p : ℕ} {vs : List ℕ} {part : ℕ} {words : List ℕ} → Certificate a heap domain p vs part words
+    abbrev certificate_same : {p : ℕ} {vs : List ℕ} {part : ℕ} {words : List ℕ} → Certificate a heap domain p vs part words
         → Certificate b heap domain' p vs part words
-    certificate-same c = record {
+    certificate_same c = record {
       count = c.count;
       some = c.some;
       most = c.most;
@@ -87,9 +87,9 @@ module _ {a b : RuleSet} (same : SameRules a b) where
       last = rw one at c.last;
     }
 
-    abbrev trimmed-same : {p : ℕ} {vs : List ℕ} {part : ℕ} {words : List ℕ} → Trimmed a heap domain p vs part words
+    abbrev trimmed_same : {p : ℕ} {vs : List ℕ} {part : ℕ} {words : List ℕ} → Trimmed a heap domain p vs part words
         → Trimmed b heap domain' p vs part words
-    trimmed-same t = record { taken = certificate-same t.taken; once = t.once; used = t.used }
+    trimmed_same t = record { taken = certificate_same t.taken; once = t.once; used = t.used }
 
 grounds_same : {a b : RuleSet} → SameRules a b → {heap : Heap} {domain domain' : List ℕ} → domain ≡ domain' → SameGrounds a heap domain b heap domain'
 grounds_same same one called f = (ground same one, ground (exchanged same) (sym one))
@@ -118,13 +118,13 @@ module _ (i : Input) {b : RuleSet} (same : SameRules i.rule_set b) where
   some_both = (λ (part, f). (part, part_same same f), λ (part, f). (part, part_same (exchanged same) f))
 
   certificate_both : {part : ℕ} {words : List ℕ} → CertificatePart i part words ↔ CertificatePart (by_rules i b) part words
-  certificate_both = (certificate-same same one_domain, certificate-same (exchanged same) (sym one_domain))
+  certificate_both = (certificate_same same one_domain, certificate_same (exchanged same) (sym one_domain))
 
   answers_same : {n : ℕ} {Yes Yes' : Type 0} {part : ℕ} {reply : Reply} {table space : List ℕ} → Yes ↔ Yes'
       → Answers i n Yes part reply table space → Answers (by_rules i b) n Yes' part reply table space
   answers_same both (Answers.over m r t s) = Answers.over (more_same grounds m) r t s
   answers_same both (Answers.fits rounds facts words f y u r s) =
-      Answers.fits rounds facts words (filled_same grounds f) (both.0 y) (trimmed-same same one_domain u) r s
+      Answers.fits rounds facts words (filled_same grounds f) (both.0 y) (trimmed_same same one_domain u) r s
   answers_same both (Answers.fits_not rounds facts f y r s) =
       Answers.fits_not rounds facts (filled_same grounds f) (λ z. y (both.1 z)) r s
 

@@ -15,7 +15,7 @@ use Rattle.semantics.proofs.Digits.{digits_of-length, digits_back}
 use Rattle.semantics.proofs.Coding.{get_d_in, position_below, values_back, positions_back}
 use Rattle.semantics.proofs.{DomainFacts.member_true, DomainFacts.member_out, Evaluator.meets_all, Evaluator.takings, Evaluator.joined}
 use Rattle.semantics.proofs.Evaluation.{every_in, every_out, both_in, both_out, flat_in, flat_out, meets_all_in, meets_all_out, takings_in, takings_out, joined_in, joined_out}
-use Rattle.semantics.proofs.CertificateTest.{rule_of, positions_of, values_at, calls_of, callsTest, conclusions, earlierTest, positionTest, lineTest, takesLine, takesLines, takes}
+use Rattle.semantics.proofs.CertificateTest.{rule_of, positions_of, values_at, calls_of, calls_test, conclusions, earlier_test, position_test, line_test, takes_line, takes_lines, takes}
 
 pub get_d_member : (rules : List Rule) (i : ℕ) → i < length rules → get_or rules i blank_rule among rules
 get_d_member [] i h = absurd (omega arith)
@@ -37,19 +37,19 @@ called_length Called.none = refl
 called_length (Called.next e rest) = ap suc (called_length rest)
 
 module _ (rule_set : RuleSet) (heap : Heap) (domain words : List ℕ) where
-  called_in_lem : {σ : List ℕ} {calls : List Call} {fs : List ℕ} → Called domain σ calls fs → callsTest rule_set heap domain words σ calls fs ≡ true
-  unfolding callsTest
+  called_in_lem : {σ : List ℕ} {calls : List Call} {fs : List ℕ} → Called domain σ calls fs → calls_test rule_set heap domain words σ calls fs ≡ true
+  unfolding calls_test
   called_in_lem Called.none = refl
   called_in_lem {σ} (Called.next {call = c} {calls = cs} {f = f} {facts = fs} e rest) =
-      both_in (eqb f (fact domain c.predicate (values_of σ c.arguments) (part_of f))) (callsTest rule_set heap domain words σ cs fs) (eq-eqb f (fact domain c.predicate (values_of σ c.arguments) (part_of f)) e) (called_in_lem rest)
+      both_in (eqb f (fact domain c.predicate (values_of σ c.arguments) (part_of f))) (calls_test rule_set heap domain words σ cs fs) (eq-eqb f (fact domain c.predicate (values_of σ c.arguments) (part_of f)) e) (called_in_lem rest)
 
-  called_out : (σ : List ℕ) (calls : List Call) (fs : List ℕ) → callsTest rule_set heap domain words σ calls fs ≡ true → Called domain σ calls fs
-  unfolding callsTest
+  called_out : (σ : List ℕ) (calls : List Call) (fs : List ℕ) → calls_test rule_set heap domain words σ calls fs ≡ true → Called domain σ calls fs
+  unfolding calls_test
   called_out σ [] [] e = Called.none
   called_out σ [] (f ∷ fs) e = absurd (false≢true e)
   called_out σ (c ∷ cs) [] e = absurd (false≢true e)
   called_out σ (c ∷ cs) (f ∷ fs) e =
-      let (p, q) = both_out (eqb f (fact domain c.predicate (values_of σ c.arguments) (part_of f))) (callsTest rule_set heap domain words σ cs fs) e in
+      let (p, q) = both_out (eqb f (fact domain c.predicate (values_of σ c.arguments) (part_of f))) (calls_test rule_set heap domain words σ cs fs) e in
       Called.next (eqb-true f (fact domain c.predicate (values_of σ c.arguments) (part_of f)) p) (called_out σ cs fs q)
 
   -- a line that passes the test is taken
@@ -63,9 +63,9 @@ module _ (rule_set : RuleSet) (heap : Heap) (domain words : List ℕ) where
     pub calls : Called domain (arguments ++ bound) rule.calls (map (fact_at words) lines)
     pub conclusion : fact_at words k among conclusions rule_set heap domain words rule arguments bound (map (fact_at words) lines)
 
-  passes_out : (k number : ℕ) (rule : Rule) (positions arguments bound lines : List ℕ) → lineTest rule_set heap domain words k number rule positions arguments bound lines ≡ true
+  passes_out : (k number : ℕ) (rule : Rule) (positions arguments bound lines : List ℕ) → line_test rule_set heap domain words k number rule positions arguments bound lines ≡ true
       → Passes k number rule positions arguments bound lines
-  unfolding lineTest earlierTest positionTest
+  unfolding line_test earlier_test position_test
   passes_out k number rule positions arguments bound lines e =
       let (t₁, e₁) = both_out _ _ e in
       let (t₂, e₂) = both_out _ _ e₁ in
@@ -77,23 +77,23 @@ module _ (rule_set : RuleSet) (heap : Heap) (domain words : List ℕ) where
       record {
         in_rule_set = ltb-true number (length rule_set.rules) t₁;
         in_word = eqb-true (positions_at words k) (digits 256 positions) t₂;
-        domain_positions = λ p m. ltb-true p (length domain) (every_out (positionTest rule_set heap domain words) positions t₃ p m);
+        domain_positions = λ p m. ltb-true p (length domain) (every_out (position_test rule_set heap domain words) positions t₃ p m);
         names = eqb-true (rule_at words k) (number + 256 * digits 65536 lines) t₄;
-        earlier = λ l m. let (a, b) = both_out (leb 1 l) (ltb l k) (every_out (earlierTest rule_set heap domain words k) lines t₅ l m) in (leb-true 1 l a, ltb-true l k b);
+        earlier = λ l m. let (a, b) = both_out (leb 1 l) (ltb l k) (every_out (earlier_test rule_set heap domain words k) lines t₅ l m) in (leb-true 1 l a, ltb-true l k b);
         meets = t₆;
         calls = called_out (arguments ++ bound) rule.calls (map (fact_at words) lines) t₇;
         conclusion = member_out (fact_at words k) (conclusions rule_set heap domain words rule arguments bound (map (fact_at words) lines)) t₈;
       }
 
   passes_in : (k number : ℕ) (rule : Rule) (positions arguments bound lines : List ℕ) → Passes k number rule positions arguments bound lines
-      → lineTest rule_set heap domain words k number rule positions arguments bound lines ≡ true
-  unfolding lineTest earlierTest positionTest
+      → line_test rule_set heap domain words k number rule positions arguments bound lines ≡ true
+  unfolding line_test earlier_test position_test
   passes_in k number rule positions arguments bound lines p =
       both_in _ _ (lt-ltb number (length rule_set.rules) p.in_rule_set)
       (both_in _ _ (eq-eqb (positions_at words k) (digits 256 positions) p.in_word)
-      (both_in _ _ (every_in (positionTest rule_set heap domain words) positions (λ q m. lt-ltb q (length domain) (p.domain_positions q m)))
+      (both_in _ _ (every_in (position_test rule_set heap domain words) positions (λ q m. lt-ltb q (length domain) (p.domain_positions q m)))
       (both_in _ _ (eq-eqb (rule_at words k) (number + 256 * digits 65536 lines) p.names)
-      (both_in _ _ (every_in (earlierTest rule_set heap domain words k) lines (λ l m. both_in (leb 1 l) (ltb l k) (le-leb 1 l (p.earlier l m).0) (lt-ltb l k (p.earlier l m).1)))
+      (both_in _ _ (every_in (earlier_test rule_set heap domain words k) lines (λ l m. both_in (leb 1 l) (ltb l k) (le-leb 1 l (p.earlier l m).0) (lt-ltb l k (p.earlier l m).1)))
       (both_in _ _ p.meets
       (both_in _ _ (called_in_lem p.calls)
       (member_true (fact_at words k) (conclusions rule_set heap domain words rule arguments bound (map (fact_at words) lines)) p.conclusion)))))))
@@ -139,8 +139,8 @@ module _ (rule_set : RuleSet) (heap : Heap) (domain words : List ℕ) where
           };
         }
 
-    pub line_out : (k : ℕ) → takesLine rule_set heap domain words k ≡ true → LineHolds rule_set heap domain words k (calls_of rule_set heap domain words k)
-    unfolding takesLine
+    pub line_out : (k : ℕ) → takes_line rule_set heap domain words k ≡ true → LineHolds rule_set heap domain words k (calls_of rule_set heap domain words k)
+    unfolding takes_line
     line_out k e =
         let rule : Rule = rule_of rule_set heap domain words k in
         let n : ℕ = arity rule_set rule.head in
@@ -152,7 +152,7 @@ module _ (rule_set : RuleSet) (heap : Heap) (domain words : List ℕ) where
 
   -- and a line that is taken passes
   test_equal : (k n n' : ℕ) (r r' : Rule) (ps ps' as₁ as₂ bs bs' ls ls' : List ℕ) → n ≡ n' → r ≡ r' → ps ≡ ps' → as₁ ≡ as₂ → bs ≡ bs' → ls ≡ ls'
-      → lineTest rule_set heap domain words k n' r' ps' as₂ bs' ls' ≡ true → lineTest rule_set heap domain words k n r ps as₁ bs ls ≡ true
+      → line_test rule_set heap domain words k n' r' ps' as₂ bs' ls' ≡ true → line_test rule_set heap domain words k n r ps as₁ bs ls ≡ true
   test_equal k n n' r r' ps ps' as₁ as₂ bs bs' ls ls' en er ep ea eb el h = rw (en, er, ep, ea, eb, el) h
 
   module _ (few : length rule_set.rules ≤ 256) (short : length domain ≤ 128) where
@@ -165,8 +165,8 @@ module _ (rule_set : RuleSet) (heap : Heap) (domain words : List ℕ) where
         (Memᴰ.cast g.is_fact (Memᴰ.map (fact domain g.rule.head g.arguments) (joined_in g.joins)))
 
     pub line_in : (k : ℕ) (lines : List ℕ) → k ≤ 65536 → LineHolds rule_set heap domain words k lines
-        → (takesLine rule_set heap domain words k ≡ true) × (lines ≡ calls_of rule_set heap domain words k)
-    unfolding takesLine
+        → (takes_line rule_set heap domain words k ≡ true) × (lines ≡ calls_of rule_set heap domain words k)
+    unfolding takes_line
     line_in k lines high t =
         let g = t.ground in
         let w = t.written in
@@ -208,19 +208,19 @@ module _ (rule_set : RuleSet) (heap : Heap) (domain words : List ℕ) where
           sym calls,
         )
 
-  lines_out : Ascending domain → (n : ℕ) → takesLines rule_set heap domain words n ≡ true → (k : ℕ) → 1 ≤ k → k ≤ n → LineHolds rule_set heap domain words k (calls_of rule_set heap domain words k)
-  unfolding takesLines
+  lines_out : Ascending domain → (n : ℕ) → takes_lines rule_set heap domain words n ≡ true → (k : ℕ) → 1 ≤ k → k ≤ n → LineHolds rule_set heap domain words k (calls_of rule_set heap domain words k)
+  unfolding takes_lines
   lines_out asc zero e k low high = absurd (omega arith)
   lines_out asc (suc n) e k low high =
-      let (p, q) = both_out (takesLine rule_set heap domain words (suc n)) (takesLines rule_set heap domain words n) e in
+      let (p, q) = both_out (takes_line rule_set heap domain words (suc n)) (takes_lines rule_set heap domain words n) e in
       by_cases (ℕ_discrete k (suc n)) (λ h. rw h (line_out asc (suc n) p)) (λ h. lines_out asc n q k low (omega arith))
 
   lines_in : length rule_set.rules ≤ 256 → length domain ≤ 128 → (n : ℕ) (calls : ℕ → List ℕ) → n ≤ 65535 → ((k : ℕ) → 1 ≤ k → k ≤ n → LineHolds rule_set heap domain words k (calls k))
-      → takesLines rule_set heap domain words n ≡ true
-  unfolding takesLines
+      → takes_lines rule_set heap domain words n ≡ true
+  unfolding takes_lines
   lines_in few short zero calls high h = refl
   lines_in few short (suc n) calls high h =
-      both_in (takesLine rule_set heap domain words (suc n)) (takesLines rule_set heap domain words n)
+      both_in (takes_line rule_set heap domain words (suc n)) (takes_lines rule_set heap domain words n)
       (line_in few short (suc n) (calls (suc n)) (omega arith) (h (suc n) (omega arith) (omega arith))).0
       (lines_in few short n calls (omega arith) (λ k low up. h k low (omega arith)))
 

@@ -1,7 +1,7 @@
 -- The three sections make the rule set; each has its room, and the arities stay.
 use native.Mathlib.Omega.{arith}
 use borrow.Author.Rules.{rules}
-use Rattle.book.proofs.Whole.{header₃, rule-set_fills}
+use Rattle.book.proofs.Whole.{header₃, rule_set_fills}
 use Rattle.book.proofs.rule_set.Goals as goal
 
 pub rules-requires : goal.rules-requires
@@ -14,4 +14,4 @@ rules-requires c = (
 
 pub returns : goal.returns
 returns c =
-    rule-set_fills c.count-c.ensures c.arities-c.ensures c.constants-c.ensures c.count-c-2.ensures (search rules) c.rules.ensures
+    rule_set_fills c.count-c.ensures c.arities-c.ensures c.constants-c.ensures c.count-c-2.ensures (search rules) c.rules.ensures
