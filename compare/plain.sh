@@ -6,10 +6,10 @@
 # blocks, reading and unfolding.
 set -euo pipefail
 cd "$(dirname "$0")"
-libraries=${PROVED_LIB:-../target/staticlib}
+library=${PROVED_LIB:-../crates/shapes/out}
 work=$(mktemp -d)
 trap 'rm -rf "$work"' EXIT
-cc -std=c11 -Wall -Wextra -Werror -O1 -I../include walker.c -L"$libraries" -lshapes -o "$work/walker"
+cc -std=c11 -Wall -Wextra -Werror -O1 -I../include walker.c -L"$library" -lshapes -o "$work/walker"
 
 # The row of a book, by its name and its bytes.
 row() {

@@ -3,9 +3,10 @@
 # reference. Words go to the program, as --long.
 set -euo pipefail
 cd "$(dirname "$0")/.."
-rt staticlib desk
-rt staticlib shapes
-rt check bench
+for library in desk shapes; do
+    (cd "crates/$library" && rt lib)
+done
+(cd crates/bench && rt run <stdin >/dev/null)
 cd compare
 cargo build --release --offline --quiet
 ../target/compare/release/compare --self-test

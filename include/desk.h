@@ -1,4 +1,4 @@
-/* The desk's two entries. Link target/staticlib/libdesk.a, which `rt staticlib desk` writes.
+/* The desk's two entries. Link crates/desk/out/libdesk.a, which `rt lib` in crates/desk writes.
  *
  * Each entry gives one number: the refusal doubled, and a second number added to it. So `r >> 1` is the refusal and `r & 1` the second
  * number, which is 0 on a refusal:

@@ -1,4 +1,4 @@
-/* The library for C, on memory that its caller lends. Link target/staticlib/libshapes.a, which `rt staticlib shapes` writes.
+/* The library for C, on memory that its caller lends. Link crates/shapes/out/libshapes.a, which `rt lib` in crates/shapes writes.
  *
  * Each call returns the refusal, 0 for none. The other numbers of its reply go through the pointers at its end, which are written on every
  * way out and are 0 on a refusal.

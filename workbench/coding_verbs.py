@@ -21,7 +21,7 @@ def encode_verb(arguments: list[str]) -> int:
         f"{ENCODED} [-o FILE] [--hex] [--mark]",
         "Writes the bytes of a book, a snapshot or a question, or all three as the bench program reads them.\n"
         "On a terminal they are shown in base sixteen. Nil is written as 0, as older controllers do, or with --mark as FFFFFFFF.",
-        "./shapes encode bench house examples/queue.pool 'queue_and_free(0x10, 0x40)' | target/bin/bench",
+        "./shapes encode bench house examples/queue.pool 'queue_and_free(0x10, 0x40)' | crates/bench/out/bench",
     )
     made.add_argument("-o", metavar="FILE", help="where to write; otherwise to standard output")
     made.add_argument("--hex", action="store_true", help="write base sixteen as text instead of bytes")

@@ -19,7 +19,8 @@ from workbench.output import say_wrong
 
 ROOT = Path(__file__).resolve().parent.parent
 LIBRARY = ROOT / "target" / "libshapes.so"
-ARCHIVE = ROOT / "target" / "staticlib" / "libshapes.a"
+CRATE = ROOT / "crates" / "shapes"
+ARCHIVE = CRATE / "out" / "libshapes.a"
 MOST_LINES = 65_535
 LAST_LINES_SHOWN = 10
 
@@ -181,10 +182,10 @@ def _make(lock: int) -> None:
     """A new library takes the old one's place in one step, so that no program loads half a file."""
     say_wrong(f"making {shown(LIBRARY)}: the library is proved first, which takes some minutes\n")
     started = time.time()
-    _run(["rt", "staticlib", "shapes"], lock)
+    _run(["rt", "lib"], CRATE, lock)
     made = LIBRARY.with_name(f"libshapes.{os.getpid()}.so")
     try:
-        _run(["gcc", "-shared", "-Wl,--whole-archive", str(ARCHIVE), "-Wl,--no-whole-archive", "-o", str(made)], lock)
+        _run(["gcc", "-shared", "-Wl,--whole-archive", str(ARCHIVE), "-Wl,--no-whole-archive", "-o", str(made)], ROOT, lock)
         # It is as old as the code that it was made of: what was changed meanwhile is newer.
         os.utime(made, (started, started))
         made.rename(LIBRARY)
@@ -192,11 +193,11 @@ def _make(lock: int) -> None:
         made.unlink(missing_ok=True)
 
 
-def _run(command: list[str], lock: int) -> None:
+def _run(command: list[str], folder: Path, lock: int) -> None:
     """Passes on what rt says about each crate, so that one sees how far it is. The tool has the lock too, since it may outlive us."""
     others: deque[str] = deque(maxlen=LAST_LINES_SHOWN)
     child = subprocess.Popen(
-        command, cwd=ROOT, stdin=subprocess.DEVNULL, stdout=subprocess.PIPE, stderr=subprocess.STDOUT, pass_fds=(lock,)
+        command, cwd=folder, stdin=subprocess.DEVNULL, stdout=subprocess.PIPE, stderr=subprocess.STDOUT, pass_fds=(lock,)
     )
     with child:
         try:

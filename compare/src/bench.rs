@@ -157,7 +157,7 @@ fn row(name: &str, input: &Input) {
 /// The fastest run of each in the longest table. `longest` runs as a process,
 /// and what it takes to refuse an empty input is taken off.
 fn long_row(name: &str, input: &Input) -> io::Result<()> {
-    let program = Path::new(env!("CARGO_MANIFEST_DIR")).join("../target/bin/longest");
+    let program = Path::new(env!("CARGO_MANIFEST_DIR")).join("../crates/longest/out/longest");
     let bytes = input.bench_bytes();
     let mut table = vec![0; MOST_LINES];
     let mut space = vec![0; 3 * MOST_LINES];

@@ -130,7 +130,7 @@ fn options(words: &[&str]) -> Option<Options> {
         long: None,
         thin: 1,
         pool: String::new(),
-        program: Some(Path::new(env!("CARGO_MANIFEST_DIR")).join("../target/bin/bench")),
+        program: Some(Path::new(env!("CARGO_MANIFEST_DIR")).join("../crates/bench/out/bench")),
         around: lent::AROUND,
     };
     let mut words = words.iter().peekable();

@@ -108,12 +108,13 @@ class Making(unittest.TestCase):
         self.addCleanup(folder.cleanup)
         self.root = Path(folder.name)
         (self.root / "crates/one/src").mkdir(parents=True)
+        (self.root / "crates/shapes").mkdir()
         (self.root / "target").mkdir()
         (self.root / "tools").mkdir()
         self.code = self.root / "crates/one/src/lib.rt"
         self.code.write_text("")
         self.library = self.root / "target/libshapes.so"
-        names = {"ROOT": self.root, "LIBRARY": self.library, "ARCHIVE": self.root / "target/staticlib/libshapes.a"}
+        names = {"ROOT": self.root, "LIBRARY": self.library, "CRATE": self.root / "crates/shapes", "ARCHIVE": self.root / "crates/shapes/out/libshapes.a"}
         for name, value in names.items():
             self.enterContext(mock.patch.object(library, name, value))
         self.enterContext(mock.patch.dict(os.environ, {"PATH": f"{self.root}/tools"}))
@@ -154,7 +155,7 @@ class Making(unittest.TestCase):
     def test_failing_tools(self):
         self.tool("gcc", "echo no such archive >&2; exit 1")
         self.tool("rt", "echo one; echo two >&2; exit 3")
-        with self.assertRaisesRegex(Unusable, "`rt staticlib shapes` failed with status 3"):
+        with self.assertRaisesRegex(Unusable, "`rt lib` failed with status 3"):
             library.make()
         self.assertIn("\n...\none\ntwo\n", self.said.getvalue())
         self.tool("rt", "true")
@@ -179,7 +180,7 @@ class Making(unittest.TestCase):
             each.start()
         for each in both:
             each.join()
-        self.assertEqual((self.root / "runs").read_text(), "run\n")
+        self.assertEqual((self.root / "crates/shapes/runs").read_text(), "run\n")
         self.assertRegex(self.said.getvalue(), "waiting: another ./shapes is making target/libshapes.so")
 
     def test_code_changed_while_it_is_made_is_newer(self):

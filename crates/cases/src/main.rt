@@ -1,17 +1,19 @@
 // What the engine and the check say of the pools in standard input. inputs.txt has them in base sixteen, with the reason for each expected
 // line; examples/pack.py makes the file stdin of it. A case has a section of text, one of words that say what is tried, and the three
 // sections of an input of the bench program. In the text a byte of 128 or more is the place of a number that was found.
+#![tactic(auto)]
+
 mod damage;
 mod lent;
 mod parts;
 mod walks;
 
-ghost use Rattle.std.specs.Prelude.{◌+◌, ◌≤◌, length};
-ghost use Rattle.io.specs.Counts.{IsPrefixLen};
+ghost use Rattle.std.specs.Prelude.{◌≡◌, ◌+◌, ◌≤◌, length, take, IfOk};
 
-use libc::{STDIN_FILENO, STDOUT_FILENO};
+use input::read_full;
 use sections::section_at;
 use semantics::CheckReply;
+use std::io;
 use words::wide;
 
 // The word of eight bytes at a place, lowest first.
@@ -29,7 +31,7 @@ fn word_at(bytes: &[u8], at: usize) -> u64
 
 // The whole words of the bytes, as many as there is room for, and their number.
 fn load(bytes: &[u8], words: &mut [u64]) -> usize
-    ensures { IsPrefixLen result words.new }
+    ensures { (result ≤ length words.new) × (result ≡ length (take result words.new)) }
 {
     let mut n = 0;
     while n < words.len() {
@@ -79,17 +81,19 @@ fn tried(words: &[u64], input: &[u8]) -> [u64; 9] {
 }
 
 // Prints the text, with the numbers at their places.
-fn spell(text: &[u8], found: &[u64; 9]) {
+fn spell(rt: &impl Print, text: &[u8], found: &[u64; 9]) -> io::Result<()> {
     let mut i = 0;
     while i < text.len() {
         let place = wide(text[i]);
         if place < 128 {
-            io::write_all(STDOUT_FILENO, &text[i..i + 1]);
+            rt.write_all(&text[i..i + 1])?;
         } else {
-            io::print_decimal(STDOUT_FILENO, found[(place - 128) % 9]);
+            let number = found[(place - 128) % 9];
+            print!(rt; "{number}")?;
         }
         i += 1;
     }
+    Ok(())
 }
 
 // Where the third section from a place on ends.
@@ -103,15 +107,15 @@ fn after(input: &[u8], at: usize) -> usize
 }
 
 // Tries what is asked of an input, and prints the text with what was found.
-fn one(text: &[u8], asked: &[u8], input: &[u8]) {
+fn one(rt: &impl Print, text: &[u8], asked: &[u8], input: &[u8]) -> io::Result<()> {
     let mut words = [0u64; 32];
     let n = load(asked, &mut words);
-    spell(text, &tried(&words[..n], input));
+    spell(rt, text, &tried(&words[..n], input))
 }
 
 // The case that starts at a place. Gives the place where it ends.
-fn case(input: &[u8], at: usize) -> usize
-    ensures { result ≤ length input.now }
+fn case(rt: &impl Print, input: &[u8], at: usize) -> io::Result<usize>
+    ensures { IfOk result (λ end. end ≤ length input.now) }
 {
     let text = section_at(input, at);
     let asked = section_at(input, text.upto);
@@ -119,24 +123,25 @@ fn case(input: &[u8], at: usize) -> usize
     let end = text.upto;
     let from = asked.from;
     let upto = asked.upto;
-    one(&input[start..end], &input[from..upto], &input[upto..]);
-    after(input, upto)
+    one(rt, &input[start..end], &input[from..upto], &input[upto..])?;
+    Ok(after(input, upto))
 }
 
 // All cases, one after the other.
-fn cases(input: &[u8]) {
+fn cases(rt: &impl Print, input: &[u8]) -> io::Result<()> {
     let mut at = 0;
     while at < input.len() {
-        let next = case(input, at);
+        let next = case(rt, input, at)?;
         if next <= at {
-            return;
+            return Ok(());
         }
         at = next;
     }
+    Ok(())
 }
 
-fn main() {
-    let mut buffer = io::large_buffer();
-    let n = io::read_full(STDIN_FILENO, &mut buffer);
-    cases(&buffer[..n]);
+fn main(rt: HostRuntime) -> io::Result<()> {
+    let mut buffer = [0u8; 65536];
+    let n = read_full(&mut rt.reader(), &mut buffer)?;
+    cases(&rt, &buffer[..n])
 }

@@ -1,30 +1,33 @@
 // The refusal of each book, snapshot and question in standard input, 0 where all is read. inputs.txt has them in base sixteen, with the
 // reason for each expected number; examples/pack.py makes the file stdin of it: for each case four sections, each after its length. The
 // first is text that stands before the number.
-ghost use Rattle.std.specs.Prelude.{◌≤◌, length};
+#![tactic(auto)]
+
+ghost use Rattle.std.specs.Prelude.{◌≤◌, length, IfOk};
 
 use block::{HEAP_SIZE, QUERY_SIZE, RULE_SET_SIZE};
 use formats::Ladder;
-use libc::{STDIN_FILENO, STDOUT_FILENO};
+use input::read_full;
 use sections::section_at;
+use std::io;
 
 // Prints the refusal, or 0.
-fn show(book: &[u8], snapshot: &[u8], question: &[u8]) {
+fn show(rt: &impl Print, book: &[u8], snapshot: &[u8], question: &[u8]) -> io::Result<()> {
     let mut rules = [0u8; RULE_SET_SIZE];
     let mut heap = [0u32; HEAP_SIZE];
     let mut query = [0u32; QUERY_SIZE];
     let answer = formats::read(book, snapshot, question, &mut rules, &mut heap, &mut query);
-    io::write_all(STDOUT_FILENO, b" ");
+    rt.write_all(b" ")?;
     let n = match answer {
         Ladder::Accepted => 0,
         Ladder::Refused(n) => n as u64,
     };
-    io::print_decimal(STDOUT_FILENO, n);
+    print!(rt; "{n}")
 }
 
 // The case that starts at a place. Gives the place where it ends.
-fn case(input: &[u8], at: usize) -> usize
-    ensures { result ≤ length input.now }
+fn case(rt: &impl Print, input: &[u8], at: usize) -> io::Result<usize>
+    ensures { IfOk result (λ end. end ≤ length input.now) }
 {
     let text = section_at(input, at);
     let book = section_at(input, text.upto);
@@ -38,26 +41,32 @@ fn case(input: &[u8], at: usize) -> usize
     let high = snapshot.upto;
     let first = question.from;
     let last = question.upto;
-    io::write_all(STDOUT_FILENO, &input[start..end]);
-    show(&input[from..upto], &input[low..high], &input[first..last]);
-    last
+    rt.write_all(&input[start..end])?;
+    show(
+        rt,
+        &input[from..upto],
+        &input[low..high],
+        &input[first..last],
+    )?;
+    Ok(last)
 }
 
 // All cases, one after the other.
-fn cases(input: &[u8]) {
+fn cases(rt: &impl Print, input: &[u8]) -> io::Result<()> {
     let mut at = 0;
     while at < input.len() {
-        let next = case(input, at);
+        let next = case(rt, input, at)?;
         if next <= at {
-            return;
+            return Ok(());
         }
         at = next;
     }
+    Ok(())
 }
 
-fn main() {
-    let mut buffer = io::large_buffer();
-    let n = io::read_full(STDIN_FILENO, &mut buffer);
-    cases(&buffer[..n]);
-    io::write_all(STDOUT_FILENO, b"\n");
+fn main(rt: HostRuntime) -> io::Result<()> {
+    let mut buffer = [0u8; 65536];
+    let n = read_full(&mut rt.reader(), &mut buffer)?;
+    cases(&rt, &buffer[..n])?;
+    rt.write_all(b"\n")
 }

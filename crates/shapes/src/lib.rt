@@ -1,5 +1,7 @@
 // The library for C: every call with the memory that its caller lends. A call returns the refusal, 0 for none, and writes the other
 // numbers of its reply on every way out.
+#![tactic(auto)]
+
 mod part;
 mod walking;
 

@@ -1,8 +1,11 @@
 // Which words share a record with which. For each word of standard input, two bytes with the lower first, it prints a line: the word, and
 // behind it those that it shares a record with. examples/sharing.py has the words, and derives the lines from the records in each.
+#![tactic(auto)]
+
 ghost use Rattle.std.specs.Prelude.{◌+◌, ◌*◌, ◌<◌, length};
 
-use libc::{STDIN_FILENO, STDOUT_FILENO};
+use input::read_full;
+use std::io;
 use words::wide;
 
 // Word k.
@@ -13,40 +16,42 @@ fn word(input: &[u8], k: usize) -> u16
 }
 
 // A word in base sixteen, after some text.
-fn print(before: &[u8], it: u16) {
-    io::write_all(STDOUT_FILENO, before);
-    io::print_hex(STDOUT_FILENO, it as u64, 4);
+fn print(rt: &impl Print, before: &[u8], it: u16) -> io::Result<()> {
+    rt.write_all(before)?;
+    print!(rt; "{it:04x}")
 }
 
 // The words that share a record with one.
-fn sharing(input: &[u8], one: u16) {
+fn sharing(rt: &impl Print, input: &[u8], one: u16) -> io::Result<()> {
     let count = input.len() / 2;
     let mut k = 0;
     while k < count {
         let other = word(input, k);
         if words::shares(one, other) {
-            print(b" ", other);
+            print(rt, b" ", other)?;
         }
         k += 1;
     }
+    Ok(())
 }
 
 // A line for each word.
-fn lines(input: &[u8]) {
+fn lines(rt: &impl Print, input: &[u8]) -> io::Result<()> {
     let count = input.len() / 2;
     let mut k = 0;
     while k < count {
         let one = word(input, k);
-        print(b"", one);
-        io::write_all(STDOUT_FILENO, b":");
-        sharing(input, one);
-        io::write_all(STDOUT_FILENO, b"\n");
+        print(rt, b"", one)?;
+        rt.write_all(b":")?;
+        sharing(rt, input, one)?;
+        rt.write_all(b"\n")?;
         k += 1;
     }
+    Ok(())
 }
 
-fn main() {
-    let mut buffer = io::buffer();
-    let n = io::read_full(STDIN_FILENO, &mut buffer);
-    lines(&buffer[..n]);
+fn main(rt: HostRuntime) -> io::Result<()> {
+    let mut buffer = [0u8; 4096];
+    let n = read_full(&mut rt.reader(), &mut buffer)?;
+    lines(&rt, &buffer[..n])
 }

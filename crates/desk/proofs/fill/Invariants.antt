@@ -1,12 +1,6 @@
 -- After k turns the first k words are those of the first 8 k bytes.
-use mathlib.Core.List.Memᴰ
-use mathlib.Core.{Path.◌≡◌, Path.refl}
-use Prim.Native.Nat.{suc, ◌+◌, ◌-◌, ◌≤◌}
-use native.Mathlib.{Omega.arith, Numerals.add-one}
-use lib.ListN.{length, length-set}
+use Rattle.std.proofs.Common.{◌≡◌, ◌-◌, ◌≤◌, length}
 use Rattle.desk.specs.Words.{Loads}
-use Rattle.desk.proofs.Bytes.{loads_more}
-use borrow.Author.Rules.{rules}
 use Rattle.desk.proofs.fill.Given as goal
 
 abbrev pub invariant-loop-k : goal.invariant-loop-k

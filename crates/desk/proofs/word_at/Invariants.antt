@@ -1,11 +1,7 @@
 -- The bytes come from the highest down: the word is the number of those from k on, so it is below 256 ^ (8 - k), with room for one more.
-use mathlib.Core.Path.{◌≡◌, refl, sym, ap, ◌∙◌}
-use Prim.Native.Nat.{ℕ, suc, ◌+◌, ◌-◌, ◌^◌, ◌≤◌, ◌<◌}
-use native.Mathlib.Omega.{arith}
-use lib.Seq.{slice, slice_empty}
+use Rattle.std.proofs.Common.{◌≡◌, ℕ, ◌+◌, ◌^◌, ◌≤◌, ◌<◌}
+use Rattle.std.proofs.Math.Seq.{slice}
 use Rattle.semantics.specs.Lists.{digits}
-use Rattle.desk.proofs.Bytes.{word_more, word_below, none_below}
-use borrow.Author.Rules.{rules}
 use Rattle.desk.proofs.word_at.Given as goal
 
 abbrev pub invariant-loop-k : goal.invariant-loop-k
