@@ -1,5 +1,7 @@
 // The certificate check. It reads the decoded blocks, in which every value is a position of the domain, and tells of any words whether
 // they meet the conditions for lines. A rule is named by its place in the block, and what it has by numbers from 0.
+#![tactic(auto)]
+
 mod join;
 mod line;
 mod rule;

@@ -1,7 +1,7 @@
 -- The largest number of variables in the rules of a block is that of its rule set, whatever the numbers of fixed values stand for; so what
 -- is kept is the domain.
 use mathlib.Core.{Path.◌≡◌, Path.refl, Path.sym, Path.ap, Path.ap₂, Path.◌∙◌, List.List, List.[], List.◌∷◌, List.◌++◌, List.append_assoc}
-use Prim.Native.Nat.{ℕ, zero, suc, ◌+◌, ◌≤◌, ◌<◌, max}
+use Prim.Native.Nat.{ℕ, zero, suc, ◌≤◌, ◌<◌, max}
 use native.Mathlib.Omega.{arith}
 use lib.ListN.{take}
 use Rattle.semantics.specs.{RuleSet.Rule, RuleSet.RuleSet, RuleSet.variables, RuleSet.WellFormed, Heap.heap_values, Domain.most_variables, Domain.ascending, Domain.good, Domain.domain}

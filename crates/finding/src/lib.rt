@@ -1,5 +1,7 @@
 // The values of a rule's variables, found from the head's arguments along equalities and along the fields of records at known addresses. What
 // is found is what the rule must have wherever it applies; in a plain rule set, where it applies, every variable is found.
+#![tactic(auto)]
+
 mod links;
 pub mod records;
 pub mod values;

@@ -1,4 +1,6 @@
 // Rules, heap and query in positions of the domain.
+#![tactic(auto)]
+
 ghost use Rattle.std.specs.Prelude.{◌≡◌, [], ◌∷◌, ◌≤◌, ◌<◌, length, take};
 ghost use Rattle.semantics.specs.RuleSet.{WellFormed, fixed_values};
 ghost use Rattle.semantics.specs.Heap.{WellFormedHeap, record_values, heap_values};

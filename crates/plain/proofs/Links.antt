@@ -2,7 +2,7 @@
 use mathlib.Core.{List.List, Path.◌≡◌, Path.refl, Path.sym, Path.ap, Logic.◌≢◌, Logic.◌⊎◌, Logic.inl, Logic.inr, Logic.⊎_elim, Logic.by_cases}
 use Prim.Native.Nat.{ℕ, ◌+◌, ◌≤◌, ◌<◌}
 use native.Mathlib.{Omega.arith, Decide.ℕ_discrete, Decide.dec_lt}
-use lib.{ListN.length, ListN.get_or, ListN.set, Seq.get_or-set_other}
+use lib.{ListN.length, ListN.get_or, Seq.get_or-set_other}
 use Rattle.semantics.specs.Lists.{zeros}
 use Rattle.semantics.proofs.Coding.{zeros_at}
 use Rattle.block.specs.Layout.{head_arity, pure_count, pure_kind, pure_place, pure_left, pure_right, atom_count, atom_place, atom_address, atom_size, atom_field}

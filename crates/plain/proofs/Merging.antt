@@ -4,7 +4,7 @@ use mathlib.Core.{Bool.Bool, Bool.true, Bool.false, Bool.false≢true, Path.◌�
 use Prim.Native.Nat.{ℕ, ◌+◌, ◌-◌, ◌≤◌}
 use native.Mathlib.{Omega.arith, Decide.ℕ_discrete}
 use borrow.Author.Tests.{lt-ltb, le-ltb, eq-eqb, ne_eqb}
-use lib.Dec.{eqb, ltb}
+use lib.Dec.{ltb}
 use Rattle.finding.specs.Values.{open_entry}
 use Rattle.plain.specs.Classes.{entries_of, Fresh, moved, Replaced, Joined, Follows, Merged}
 

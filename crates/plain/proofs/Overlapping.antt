@@ -4,7 +4,7 @@ use mathlib.Core.{Path.sym, Path.ap, Path.◌∙◌, List.List}
 use Prim.Native.Nat.{ℕ}
 use Rattle.block.specs.Layout.{fixed_in, head_arity, pure_count, pure_left, pure_right}
 use Rattle.block.specs.Ready.{FormedRead, variables_in}
-use Rattle.plain.specs.Classes.{entries_of, Follows, Merged, ClassesOf, EqualsMet, UnequalsMet, SideMet, Overlaps}
+use Rattle.plain.specs.Classes.{entries_of, Follows, ClassesOf, EqualsMet, UnequalsMet, SideMet, Overlaps}
 use Rattle.plain.proofs.{Seats.entry_image, Merging.MergedTo, Merging.self_follows}
 
 -- what values tell apart, the entries do

@@ -1,6 +1,5 @@
 -- The rules that a rule excludes, counted up one by one.
 use mathlib.Core.{Path.◌≡◌}
-use lib.ListN.{length}
 use Prim.Native.Nat.{ℕ, ◌+◌, ◌≤◌, ◌<◌}
 use native.Mathlib.{Omega.arith, Decide.ℕ_discrete, Decide.dec_lt}
 use Rattle.semantics.specs.{RuleSet.RuleSet, RuleSet.rule_of, Plain.Exclude}

@@ -1,5 +1,7 @@
 // Whether a rule set is plain: every rule that calls takes a record, every variable of a rule is fixed, and any two rules of one predicate
 // exclude each other. The answer is exact, over all whole numbers.
+#![tactic(auto)]
+
 mod classes;
 mod excluding;
 mod fixing;

@@ -1,4 +1,6 @@
 // The bench program's input: three sections, and the engine's reply to them.
+#![tactic(auto)]
+
 ghost use Rattle.std.specs.Prelude.{◌≡◌, ◌-◌, length};
 ghost use Rattle.semantics.specs.Contract.{book_section, snapshot_section, question_section, Decided};
 ghost use Rattle.sections.specs.Sections.{SectionAt, Splits};

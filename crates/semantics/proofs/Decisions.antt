@@ -1,6 +1,6 @@
 -- What can be decided of each member of a list, or of each number below another, can be decided of all, and of some.
 use mathlib.Core.List.Memᴰ
-use mathlib.Core.{Path.◌≡◌, Path.refl, Path.sym, Path.subst, Logic.⊎_elim, List.List, List.[], List.◌∷◌}
+use mathlib.Core.{Path.refl, Path.sym, Path.subst, Logic.⊎_elim, List.List, List.[], List.◌∷◌}
 use Prim.Native.Nat.{ℕ, zero, suc, ◌<◌}
 use native.Mathlib.{Omega.arith, Decide.ℕ_discrete}
 use Rattle.semantics.specs.Lists.{◌among◌}

@@ -1,6 +1,6 @@
 -- Each fault of the examples is met, with its number: one test that the checker computes, and the lemma that turns it into each.
 use mathlib.Core.{Bool.Bool, Bool.true, Bool.false, Bool.false≢true, Path.◌≡◌, Path.refl, Path.ap}
-use Prim.Native.Nat.{ℕ, ◌-◌}
+use Prim.Native.Nat.{ℕ}
 use lib.Dec.{eqb}
 use borrow.Author.Tests.{eqb-true}
 use Rattle.semantics.specs.{Lists.◌among◌, Lists.digits, Reader.Result, Reader.accepted, Reader.refused, Reader.times, Reader.counted, Reader.word}

@@ -1,10 +1,10 @@
 -- Whether every variable of a rule is fixed can be decided. Variables found to be fixed are listed, the head's first; as long as an equality or
 -- a field leads from a listed one to another, that one is listed too. There are only so many, and once no link leads further, what is not
 -- listed is not fixed.
-use mathlib.Core.{Path.◌≡◌, Path.refl, Path.sym, Path.ap, Path.◌∙◌, Logic.◌⊎◌, Logic.inl, Logic.inr, Logic.⊎_elim}
+use mathlib.Core.{Path.◌≡◌, Path.refl, Path.sym, Path.ap, Logic.◌⊎◌, Logic.inl, Logic.inr, Logic.⊎_elim}
 use mathlib.Core.List.Memᴰ
 use mathlib.Core.List.{List, ◌∷◌}
-use Prim.Native.Nat.{ℕ, zero, suc, ◌+◌, ◌≤◌, ◌<◌}
+use Prim.Native.Nat.{ℕ, zero, suc, ◌+◌, ◌<◌}
 use native.Mathlib.Omega.{arith}
 use lib.ListN.{length}
 use Rattle.semantics.specs.{Lists.◌among◌, Lists.Distinct, Lists.upward}

@@ -1,14 +1,14 @@
 -- Whether a rule set is plain can be decided: each of its conditions can. Two rules of one predicate exclude each other exactly if no numbers
 -- meet the conditions of both, where the head's variables are shared and the second rule's bound ones follow those of the first.
-use mathlib.Core.{Bool.true, Bool.false, Path.◌≡◌, Path.refl, Path.sym, Path.ap, Path.◌∙◌, Path.subst₂, Logic.◌≢◌, Logic.⊎_elim}
+use mathlib.Core.{Bool.true, Bool.false, Path.◌≡◌, Path.refl, Path.sym, Path.ap, Path.◌∙◌, Path.subst₂, Logic.⊎_elim}
 use mathlib.Core.List.Memᴰ
 use mathlib.Core.List.{List, [], ◌∷◌, ◌++◌, map, cons≢nil}
-use Prim.Native.Nat.{ℕ, zero, suc, ◌+◌, ◌-◌, ◌≤◌, ◌<◌}
+use Prim.Native.Nat.{ℕ, zero, suc, ◌+◌, ◌-◌, ◌<◌}
 use native.Mathlib.{Omega.arith, Decide.ℕ_discrete, Decide.dec_lt}
 use lib.{ListN.length, ListN.get_or, ListN.length-append, ListN.get_or-append, Seq.get_or-append-add, Dec.ltb}
 use borrow.Author.Tests.{lt-ltb, le-ltb}
 use Rattle.semantics.specs.{Lists.◌among◌, Tree.value_of, Tree.Compare, Tree.Meets}
-use Rattle.semantics.specs.RuleSet.{Term, var, fixed, Kind, Pure, PointsTo, Call, Rule, RuleSet, arity, variables, blank_rule, rule_of, fixed_values, InScope, WellFormedRule, WellFormed}
+use Rattle.semantics.specs.RuleSet.{Term, var, fixed, Kind, Pure, PointsTo, Call, Rule, RuleSet, arity, variables, rule_of, fixed_values, InScope, WellFormedRule, WellFormed}
 use Rattle.semantics.specs.Plain.{Consumes, Consuming, VariablesFixed, Allows, Exclude, Exclusive, Plain}
 use Rattle.semantics.proofs.{Decisions.all_decided, Decisions.below_decided, FixedDecided.all_fixed_decided, Unifying.value, Unifying.Met, Unifying.Solved, Unifying.solved_decided, Taking.get_d_member}
 

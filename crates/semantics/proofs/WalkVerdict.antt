@@ -2,7 +2,7 @@
 -- them all. Where a tree by hand takes them all and the rule set is plain, the walk ends with some tree, as its outcome promises, and by
 -- precision that tree takes the same records.
 use mathlib.Core.List.Memᴰ
-use mathlib.Core.{Path.◌≡◌, Path.ap, Option.Option, Option.none, Option.some, Option.none-ne-some, Option.some-injective, List.List, List.[]}
+use mathlib.Core.{Path.◌≡◌, Path.ap, Option.Option, Option.some, Option.none-ne-some, Option.some-injective, List.List, List.[]}
 use Prim.Native.Nat.{ℕ, ◌<◌}
 use native.Mathlib.Omega.{arith}
 use lib.ListN.{length}

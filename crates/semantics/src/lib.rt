@@ -1,4 +1,5 @@
 // The types of the public answers. The definitions stand in specs/, and their theorems in proofs/.
+#![tactic(auto)]
 
 // The refusals that no reader gives. specs/Refusals has all numbers.
 pub const MEMORY_SIZE: u64 = 10;

@@ -2,8 +2,8 @@
 -- take free records; otherwise a plain rule set leaves no way to choose it.
 use mathlib.Core.{Bool.Bool, Bool.true, Bool.false, Bool.false≢true, Path.◌≡◌, Path.refl, Path.sym, Path.ap, Path.◌∙◌, Path.subst, Logic.◌≢◌, Logic.by_cases}
 use mathlib.Core.List.Memᴰ
-use mathlib.Core.{Option.some, List.List, List.◌++◌}
-use Prim.Native.Nat.{ℕ, ◌+◌, ◌-◌, ◌≤◌, ◌<◌}
+use mathlib.Core.{List.List, List.◌++◌}
+use Prim.Native.Nat.{ℕ, ◌≤◌, ◌<◌}
 use native.Mathlib.{Omega.arith, Decide.dec_lt}
 use lib.{ListN.length, ListN.get_or, ListN.take, ListN.drop, ListN.length-drop, ListN.take-append-drop, Seq.get_or-take, Seq.length-take-le, Seq.ext_get_or}
 use Rattle.semantics.specs.RuleSet.{PointsTo, Pure, fixed_values, variables, arity}

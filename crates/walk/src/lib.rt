@@ -1,6 +1,8 @@
 // The quick walk: refusals 1 to 9, then 12 if the rule set is not plain, and else the verdict, by unfolding from the question downward. It
 // needs no table and no domain, and nothing that is lent is changed. The first rule that can be unfolded is taken and never taken back: in a
 // plain rule set it is the only one.
+#![tactic(auto)]
+
 mod choosing;
 mod taking;
 mod unfolding;

@@ -1,9 +1,8 @@
 -- `exchange_calls` exchanges byte by byte. Invariant: the first j bytes of both calls have changed places.
-use borrow.Author.Rules.{rules}
-use Prim.Native.Nat.{◌+◌, ◌-◌, ◌≤◌}
+use Prim.Native.Nat.{◌+◌}
 use mathlib.Core.Path.{◌≡◌, refl}
 use native.Mathlib.Omega.{arith}
-use Rattle.block.proofs.Exchange.{Traded, traded_none, traded_more, traded_all}
+use Rattle.block.proofs.Exchange.{traded_none, traded_more, traded_all}
 use Rattle.block.proofs.exchange_calls.Goals as goal
 
 pub loop-j-init : goal.loop-j-init

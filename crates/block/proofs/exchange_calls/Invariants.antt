@@ -1,9 +1,6 @@
 -- `exchange_calls` exchanges byte by byte. Invariant: the first j bytes of both calls have changed places.
-use borrow.Author.Rules.{rules}
-use Prim.Native.Nat.{◌+◌, ◌-◌, ◌≤◌}
-use mathlib.Core.Path.{◌≡◌, refl}
-use native.Mathlib.Omega.{arith}
-use Rattle.block.proofs.Exchange.{Traded, traded_none, traded_more, traded_all}
+use Prim.Native.Nat.{◌-◌, ◌≤◌}
+use Rattle.block.proofs.Exchange.{Traded}
 use Rattle.block.proofs.exchange_calls.Given as goal
 
 abbrev pub invariant-loop-j : goal.invariant-loop-j

@@ -1,5 +1,4 @@
 -- `build` takes the steps of the builder one after the other; each keeps the space's length.
-use borrow.Author.Rules.{rules}
 use mathlib.Core.Path.{◌∙◌}
 use native.Mathlib.Omega.{arith}
 use Rattle.builder.proofs.Building.{cleared_marks, lent_cleared, plan_numberable, named_lined, lines_inside, builds}

@@ -1,12 +1,10 @@
 -- `check` tests the number of words and the last fact, and passes the lines one by one: those passed hold. What is told of the blocks is
 -- told of the input that they hold.
-use borrow.Author.{Rules.rules, Count.below_more}
+use borrow.Author.{Count.below_more}
 use mathlib.Core.Path.{sym, ◌∙◌}
-use Prim.Native.Nat.{ℕ, ◌+◌, ◌-◌, ◌≤◌, ◌<◌}
 use native.Mathlib.Omega.{arith}
 use Rattle.block.proofs.ReadyBlocks.{ready_of}
 use Rattle.words.proofs.Answers.{told_true, told_false}
-use Rattle.certificate.specs.Line.{LineIn}
 use Rattle.certificate.proofs.Lines.{checked}
 use Rattle.certificate.proofs.check.Goals as goal
 

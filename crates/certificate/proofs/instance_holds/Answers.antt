@@ -1,5 +1,4 @@
 -- `instance_holds` tests the conditions in turn: positions, head, pure conditions, and the join.
-use borrow.Author.Rules.{rules}
 use mathlib.Core.Path.{sym, ◌∙◌}
 use Rattle.words.proofs.Answers.{told_false, told_as}
 use Rattle.certificate.proofs.Passing.{head_is}

@@ -1,5 +1,4 @@
 -- `line_holds` tests that the rule exists, and then the line as an instance of it.
-use borrow.Author.Rules.{rules}
 use mathlib.Core.Path.{◌≡◌, ap, ◌∙◌}
 use Prim.Native.Nat.{ℕ, ◌%◌}
 use native.Mathlib.Omega.{arith}

@@ -2,7 +2,6 @@
 use mathlib.Core.Path.{refl}
 use native.Mathlib.Omega.{arith}
 use Rattle.desk.specs.Words.{Loaded}
-use borrow.Author.Rules.{rules}
 use Rattle.desk.proofs.load.Goals as goal
 
 pub returns-then-len-gt-MOST : goal.returns-then-len-gt-MOST

@@ -5,7 +5,6 @@ use Rattle.block.specs.Layout.{input_in}
 use Rattle.engine.proofs.{Answering.lent_same, Answering.answered, Answering.over_answered, Answers.few_records, Answers.every_part}
 use Rattle.fixpoint.proofs.Endings.{ran_done, ran_over}
 use Rattle.evaluation.proofs.Standing.{represents_of}
-use borrow.Author.Rules.{rules}
 use Rattle.engine.proofs.answer.Goals as goal
 
 pub every_record-every-requires : goal.every_record-every-requires

@@ -1,5 +1,4 @@
 -- The check for every record.
-use borrow.Author.Rules.{rules}
 use Rattle.engine.proofs.check.Goals as goal
 
 pub returns : goal.returns

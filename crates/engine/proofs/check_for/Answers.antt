@@ -4,7 +4,6 @@ use mathlib.Core.Path.{refl}
 use Rattle.semantics.specs.Contract.{Checks}
 use Rattle.formats.proofs.Answers.{well_formed, block_long, unread, answered}
 use Rattle.engine.proofs.Answers.{few_records, chosen_taken}
-use borrow.Author.Rules.{rules}
 use Rattle.engine.proofs.check_for.Goals as goal
 
 pub chosen-of-requires : goal.chosen-of-requires

@@ -1,5 +1,4 @@
 -- The check for the part that is handed in.
-use borrow.Author.Rules.{rules}
 use Rattle.engine.proofs.check_part.Goals as goal
 
 pub returns : goal.returns

@@ -1,6 +1,5 @@
 -- Every record, or the part that was handed in.
 use mathlib.Core.Path.{refl}
-use borrow.Author.Rules.{rules}
 use Rattle.engine.proofs.chosen.Goals as goal
 
 pub returns-then-whole : goal.returns-then-whole

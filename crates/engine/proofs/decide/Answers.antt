@@ -1,6 +1,5 @@
 -- The question about the whole heap: a reply without a part.
 use Rattle.engine.proofs.Answers.{whole_decided}
-use borrow.Author.Rules.{rules}
 use Rattle.engine.proofs.decide.Goals as goal
 
 pub returns : goal.returns

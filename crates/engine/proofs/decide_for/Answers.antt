@@ -2,7 +2,6 @@
 -- `answer`.
 use mathlib.Core.Path.{refl}
 use Rattle.formats.proofs.Answers.{well_formed, block_long, unread, unlent, answered}
-use borrow.Author.Rules.{rules}
 use Rattle.engine.proofs.decide_for.Goals as goal
 
 pub answer-requires : goal.answer-requires

@@ -1,6 +1,5 @@
 -- `lends` meets its contract: the three tests are the three conditions.
 use native.Mathlib.Omega.{arith}
-use borrow.Author.Rules.{rules}
 use Rattle.words.proofs.Answers.{told_true, told_false}
 use Rattle.engine.proofs.lends.Goals as goal
 

@@ -1,5 +1,4 @@
 -- One look through the table, for the one question or the other.
-use borrow.Author.Rules.{rules}
 use Rattle.engine.proofs.sought.Goals as goal
 
 pub returns-then-whole : goal.returns-then-whole

@@ -1,7 +1,6 @@
 -- `takes` meets its contract: the checker tells it of the placed input, so of the input.
 use Rattle.words.proofs.Answers.{told_as}
 use Rattle.evaluation.proofs.Standing.{represents_of, last_placed, same_certificate}
-use borrow.Author.Rules.{rules}
 use Rattle.engine.proofs.takes.Goals as goal
 
 pub check-requires : goal.check-requires

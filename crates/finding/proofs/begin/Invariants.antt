@@ -1,12 +1,7 @@
 -- `begin` opens the bound variables one by one; each had a value, since no entry was open.
-use mathlib.Core.Path.{◌≡◌, sym, ◌∙◌}
 use Prim.Native.Nat.{◌-◌, ◌≤◌}
-use native.Mathlib.Omega.{arith}
-use borrow.Author.Rules.{rules}
-use lib.ListN.{length-set}
-use Rattle.finding.specs.Values.{open_entry, Counted}
+use Rattle.finding.specs.Values.{Counted}
 use Rattle.finding.specs.Found.{Opened}
-use Rattle.finding.proofs.Opens.{opens_none, opens_more, opened_none, opened_more}
 use Rattle.finding.proofs.begin.Given as goal
 
 abbrev pub invariant-loop-v : goal.invariant-loop-v

@@ -2,8 +2,7 @@
 use mathlib.Core.{List.List, Path.◌≡◌, Path.sym, Path.◌∙◌}
 use Prim.Native.Nat.{ℕ}
 use native.Mathlib.Omega.{arith}
-use borrow.Author.Rules.{rules}
-use Rattle.finding.specs.{Values.Counted, Links.Keeps}
+use Rattle.finding.specs.{Links.Keeps}
 use Rattle.block.specs.Layout.{fixed_in}
 use Rattle.finding.proofs.{Opens.opens_kept, Shapes.shaped}
 use Rattle.finding.proofs.Turns.{Sought, sought_none, sought_more, turn_keeps, still_turn, still_all}

@@ -1,9 +1,5 @@
 -- `highest` meets its contract: none of the bytes passed is above the largest so far.
-use Prim.Native.Nat.{◌-◌, ◌≤◌, ◌<◌}
-use mathlib.Core.{Path.◌≡◌, Logic.⊎_elim}
-use native.Mathlib.{Omega.arith, Nat.eq-or-lt_of_le}
-use lib.ListN.{get_or}
-use borrow.Author.Rules.{rules}
+use Prim.Native.Nat.{◌-◌, ◌≤◌}
 use Rattle.placing.specs.Placed.{Highest}
 use Rattle.placing.proofs.highest.Given as goal
 

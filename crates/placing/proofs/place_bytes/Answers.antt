@@ -1,10 +1,8 @@
 -- `place_bytes` meets its contract: the bytes before place i are placed, and the others are as they were.
-use Prim.Native.Nat.{◌+◌, ◌-◌, ◌≤◌}
-use mathlib.Core.{Path.◌≡◌, Logic.⊎_elim}
+use Prim.Native.Nat.{◌+◌}
+use mathlib.Core.{Path.◌≡◌}
 use native.Mathlib.Omega.{arith}
-use Rattle.placing.specs.Placed.{BytesPlaced}
 use Rattle.placing.proofs.PlacingRules.{bytes_low, bytes_join, byte_low, byte_fixed}
-use borrow.Author.Rules.{rules}
 use Rattle.placing.proofs.place_bytes.Goals as goal
 use Rattle.placing.proofs.place_bytes.Goals.{else-byte-ge-FIXED, then-byte-ge-FIXED}
 

@@ -1,10 +1,6 @@
 -- `place_bytes` meets its contract: the bytes before place i are placed, and the others are as they were.
-use Prim.Native.Nat.{◌+◌, ◌-◌, ◌≤◌}
-use mathlib.Core.{Path.◌≡◌, Logic.⊎_elim}
-use native.Mathlib.Omega.{arith}
+use Prim.Native.Nat.{◌-◌, ◌≤◌}
 use Rattle.placing.specs.Placed.{BytesPlaced}
-use Rattle.placing.proofs.PlacingRules.{bytes_low, bytes_join, byte_low, byte_fixed}
-use borrow.Author.Rules.{rules}
 use Rattle.placing.proofs.place_bytes.Given as goal
 
 abbrev pub invariant-loop-i : goal.invariant-loop-i

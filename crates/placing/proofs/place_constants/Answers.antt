@@ -1,13 +1,11 @@
 -- `place_constants` meets its contract: after k turns the first k constants are in positions.
-use Prim.Native.Nat.{◌-◌, ◌≤◌, ◌<◌}
+use Prim.Native.Nat.{◌<◌}
 use mathlib.Core.Path.{◌≡◌, ap, ◌∙◌}
 use native.Mathlib.Omega.{arith}
 use lib.{ListN.take, ListN.length-set, Seq.get_or-set_same}
 use Rattle.semantics.specs.Fact.{position}
 use Rattle.block.specs.Layout.{constant_count}
-use Rattle.placing.specs.Placed.{ConstantsPlaced}
 use Rattle.placing.proofs.{PlacingRules.constants_none, PlacingRules.constants_after, PlacingRules.constants_more, PlacingRules.constant_is, Positions.placeable_one}
-use borrow.Author.Rules.{rules}
 use Rattle.placing.proofs.place_constants.Goals as goal
 
 pub overflow_cast-count : goal.overflow_cast-count

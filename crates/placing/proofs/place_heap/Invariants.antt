@@ -1,12 +1,7 @@
 -- `place_heap` meets its contract. After k turns the first k records are written; writing one leaves the others as they are.
 use Prim.Native.Nat.{◌-◌, ◌≤◌}
-use native.Mathlib.Omega.{arith}
-use mathlib.Core.Path.{◌∙◌}
-use lib.{ListN.take, ListN.length-set, Seq.get_or-set_same}
-use Rattle.block.proofs.HeapInBlock.{records_few, fields_few}
-use Rattle.domain.proofs.Values.{value_in}
-use Rattle.placing.proofs.{PlacingHeap.PlacingHeap, PlacingHeap.heap_more, PlacingHeap.heap_all, Positions.placeable_some}
-use borrow.Author.Rules.{rules}
+use lib.{ListN.take}
+use Rattle.placing.proofs.{PlacingHeap.PlacingHeap}
 use Rattle.placing.proofs.place_heap.Given as goal
 
 abbrev pub invariant-loop-k : goal.invariant-loop-k

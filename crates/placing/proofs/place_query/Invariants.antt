@@ -1,13 +1,8 @@
 -- `place_query` meets its contract. After i turns the first i positions are written and the others are 0.
-use Prim.Native.Nat.{ℕ, ◌+◌, ◌-◌, ◌≤◌, ◌<◌}
-use mathlib.Core.{Path.◌≡◌, Path.refl, Path.sym, Path.ap, Path.◌∙◌, List.map}
-use native.Mathlib.Omega.{arith}
-use borrow.Author.{Count.below_more, Rules.rules}
-use lib.{ListN.length, ListN.get_or, ListN.take, ListN.length-set, Seq.get_or-set_same, Seq.get_or-set_other}
+use Prim.Native.Nat.{ℕ, ◌-◌, ◌≤◌, ◌<◌}
+use mathlib.Core.{Path.◌≡◌}
+use lib.{ListN.length, ListN.get_or, ListN.take}
 use Rattle.semantics.specs.Fact.{position}
-use Rattle.semantics.proofs.Coding.{get_d_in, zeros_at}
-use Rattle.words.proofs.Tabulate.{tabulate-map, tabulate_same, tabulate_get_d}
-use Rattle.placing.proofs.Positions.{placeable_one}
 use Rattle.placing.proofs.place_query.Given as goal
 
 abbrev pub invariant-loop-i : goal.invariant-loop-i

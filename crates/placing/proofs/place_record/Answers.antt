@@ -1,13 +1,11 @@
 -- `place_record` meets its contract. After j turns the first j fields are written and nothing else; the address and the size follow.
-use Prim.Native.Nat.{◌-◌, ◌≤◌}
 use mathlib.Core.List.Memᴰ
 use mathlib.Core.{Path.sym, Path.ap, Path.◌∙◌}
 use native.Mathlib.Omega.{arith}
 use lib.ListN.{take}
 use Rattle.semantics.specs.Fact.{position}
 use Rattle.domain.proofs.Among.{field_in}
-use Rattle.placing.proofs.{Positions.placeable_one, PlacingHeap.Placing, PlacingHeap.placing_none, PlacingHeap.placing_more, PlacingHeap.placing_all}
-use borrow.Author.Rules.{rules}
+use Rattle.placing.proofs.{Positions.placeable_one, PlacingHeap.placing_none, PlacingHeap.placing_more, PlacingHeap.placing_all}
 use Rattle.placing.proofs.place_record.Goals as goal
 
 pub loop-j-init : goal.loop-j-init

@@ -1,13 +1,11 @@
 -- `place_rules` meets its contract. The constants are placed first, apart from the rules. The bytes of the first k rules are placed and the
 -- others are as they were; a rule whose bytes are all low stays as it is. At the end these are all bytes of the rules.
-use Prim.Native.Nat.{◌+◌, ◌-◌, ◌≤◌}
-use mathlib.Core.{Path.◌≡◌, Logic.inl, Logic.⊎_elim}
+use Prim.Native.Nat.{◌+◌}
+use mathlib.Core.{Path.◌≡◌, Logic.inl}
 use native.Mathlib.Omega.{arith}
 use Rattle.block.specs.Layout.{rule_count, rule_place, fixed_in, constants_in}
 use Rattle.domain.proofs.Counts.{few_rules}
-use Rattle.placing.specs.Placed.{BytesPlaced}
 use Rattle.placing.proofs.PlacingRules.{bytes_low, bytes_join, rules_all, placing_all, constants-count, constants_placeable}
-use borrow.Author.Rules.{rules}
 use Rattle.placing.proofs.place_rules.Goals as goal
 use Rattle.placing.proofs.place_rules.Goals.{else-wide-ge-FIXED, then-wide-ge-FIXED}
 

@@ -1,7 +1,6 @@
 -- `position` meets its contract. Before the place where the search ends all values are below v and from there on none is; v is among
 -- them, so it stands there.
 use Rattle.placing.proofs.Positions.{placeable_room, found_position}
-use borrow.Author.Rules.{rules}
 use Rattle.placing.proofs.position.Goals as goal
 
 pub find-requires : goal.find-requires

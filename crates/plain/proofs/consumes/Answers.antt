@@ -1,5 +1,4 @@
 -- `consumes` compares two counts.
-use borrow.Author.Rules.{rules}
 use mathlib.Core.{Path.sym, Path.◌∙◌, Logic.◌≢◌}
 use Rattle.words.proofs.Answers.{told_true, told_as, told_unequal}
 use Rattle.plain.proofs.consumes.Goals as goal

@@ -1,10 +1,7 @@
 -- `plain` passes the rules one by one: those passed are as a plain rule set asks, and the first that is not is the answer no.
-use borrow.Author.{Rules.rules, Count.below_more}
-use Prim.Native.Nat.{ℕ, ◌-◌, ◌≤◌, ◌<◌}
+use borrow.Author.{Count.below_more}
 use native.Mathlib.Omega.{arith}
 use Rattle.words.proofs.Answers.{told_true, told_false}
-use Rattle.block.specs.Layout.{rule_set_read}
-use Rattle.plain.specs.Plain.{PlainRule}
 use Rattle.plain.proofs.Conclusion.{plain_all, plain_each}
 use Rattle.plain.proofs.plain.Goals as goal
 

@@ -1,11 +1,7 @@
 -- `plain` passes the rules one by one: those passed are as a plain rule set asks, and the first that is not is the answer no.
-use borrow.Author.{Rules.rules, Count.below_more}
 use Prim.Native.Nat.{ℕ, ◌-◌, ◌≤◌, ◌<◌}
-use native.Mathlib.Omega.{arith}
-use Rattle.words.proofs.Answers.{told_true, told_false}
 use Rattle.block.specs.Layout.{rule_set_read}
 use Rattle.plain.specs.Plain.{PlainRule}
-use Rattle.plain.proofs.Conclusion.{plain_all, plain_each}
 use Rattle.plain.proofs.plain.Given as goal
 
 abbrev pub invariant-loop-r : goal.invariant-loop-r

@@ -1,5 +1,4 @@
 -- `plain_rule` tests the three conditions one after the other.
-use borrow.Author.Rules.{rules}
 use native.Mathlib.Omega.{arith}
 use Rattle.words.proofs.Answers.{told_false, told_as}
 use Rattle.block.specs.Layout.{rule_set_read}

@@ -1,5 +1,4 @@
 -- The book is the house book exactly where its section is empty; snapshot and question are those of `decide`.
-use borrow.Author.Rules.{rules}
 use native.Mathlib.Omega.{arith}
 use mathlib.Core.Path.{sym, ◌∙◌}
 use Rattle.sections.proofs.ThreeSections.{book_house, book_own, decided_book}

@@ -1,5 +1,4 @@
 -- The sections lie within the input, so they can be lent; what was asked about them is what was asked about their bytes.
-use borrow.Author.Rules.{rules}
 use Rattle.sections.proofs.ThreeSections.{snapshot_bytes, question_bytes}
 use Rattle.sections.proofs.decide.Goals as goal
 

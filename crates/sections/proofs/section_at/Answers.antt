@@ -5,7 +5,6 @@ use lib.ListN.{length, length-drop, drop}
 use mathlib.Core.{Path.◌≡◌, Path.refl, List.List}
 use Prim.Native.Nat.{ℕ, ◌+◌, ◌*◌, ◌≤◌}
 use Rattle.semantics.specs.Contract.{section_length}
-use borrow.Author.Rules.{rules}
 use Rattle.sections.proofs.section_at.Goals as goal
 
 pub returns-then-left-lt2 : goal.returns-then-left-lt2

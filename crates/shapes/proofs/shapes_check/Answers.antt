@@ -1,5 +1,4 @@
 -- The check's contract, of the reply as it stands in the number that was written.
-use borrow.Author.Rules.{rules}
 use Rattle.shapes.proofs.shapes_check.Goals as goal
 
 pub returns : goal.returns

@@ -1,5 +1,4 @@
 -- The engine's contract, of the reply as it stands in the numbers that were written.
-use borrow.Author.Rules.{rules}
 use Rattle.shapes.proofs.shapes_decide.Goals as goal
 
 pub returns : goal.returns

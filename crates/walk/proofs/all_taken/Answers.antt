@@ -3,7 +3,6 @@ use native.Mathlib.Omega.{arith}
 use lib.Pow.{pow-lt}
 use mathlib.Core.Path.{refl}
 use Prim.Native.Nat.{◌<◌}
-use borrow.Author.Rules.{rules}
 use Rattle.walk.proofs.WholeMask.{whole_told}
 use Rattle.walk.proofs.all_taken.Goals as goal
 

@@ -1,11 +1,7 @@
 -- `arguments_of` writes the values one after the other over zeros.
-use borrow.Author.Rules.{rules}
-use mathlib.Core.Path.{◌≡◌, ◌∙◌}
 use Prim.Native.Nat.{◌-◌, ◌≤◌}
-use native.Mathlib.Omega.{arith}
 use lib.ListN.{length, get_or}
-use Rattle.words.proofs.Tabulate.{tabulate_get_d}
-use Rattle.walk.proofs.Arguments.{Written, written_none, written_more, written_take, written_counted}
+use Rattle.walk.proofs.Arguments.{Written}
 use Rattle.walk.proofs.arguments_of.Given as goal
 
 abbrev pub invariant-loop-i : goal.invariant-loop-i

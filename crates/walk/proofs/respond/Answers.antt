@@ -1,5 +1,4 @@
 -- `respond` asks whether the rule set is plain, and leaves the rest to `verdict`.
-use borrow.Author.Rules.{rules}
 use Rattle.walk.proofs.Verdicts.{rules_readable, refuses}
 use Rattle.walk.proofs.respond.Goals as goal
 

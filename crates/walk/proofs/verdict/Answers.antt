@@ -1,5 +1,4 @@
 -- `verdict` walks from the query with no record taken and fuel for one more than there can be.
-use borrow.Author.Rules.{rules}
 use mathlib.Core.Path.{◌∙◌}
 use native.Mathlib.Omega.{arith}
 use Rattle.words.proofs.Tabulate.{tabulate-length}

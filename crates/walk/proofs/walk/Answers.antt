@@ -1,5 +1,4 @@
 -- `walk` meets its contract: what the reader refuses is refused, and what it accepts `respond` answers.
-use borrow.Author.Rules.{rules}
 use native.Mathlib.Omega.{arith}
 use Rattle.formats.proofs.Answers.{is_accepted, well_formed, block_long, unread, answered}
 use Rattle.walk.proofs.Verdicts.{constants_fit}

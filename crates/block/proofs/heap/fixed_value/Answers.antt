@@ -1,6 +1,5 @@
 -- `fixed_value` meets its contract: nil, a constant, or past the last one.
 use native.Mathlib.Omega.{arith}
-use borrow.Author.Rules.{rules}
 use Rattle.block.proofs.GivenValues.{fixed_constant, fixed_past}
 use Rattle.block.proofs.heap.fixed_value.Goals as goal
 

@@ -2,7 +2,6 @@
 use mathlib.Core.{Path.◌≡◌, Path.ap, Path.◌∙◌}
 use Prim.Native.Nat.{ℕ, ◌+◌, ◌-◌}
 use native.Mathlib.Omega.{arith}
-use borrow.Author.Rules.{rules}
 use lib.{ListN.take, ListN.drop}
 use Rattle.block.specs.Layout.{query_count, constant_count}
 use Rattle.block.proofs.GivenValues.{part_entries, given-row}

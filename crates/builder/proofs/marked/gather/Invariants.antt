@@ -1,10 +1,7 @@
 -- `gather` meets its contract. After i turns the lines of the first i places stand where their numbers say. A number is never beyond its
 -- place, so a line that is written never hits a place that is still to be read.
 use Prim.Native.Nat.{suc, ◌-◌}
-use mathlib.Core.Logic.{⊎_elim}
-use native.Mathlib.Omega.{arith}
-use Rattle.builder.proofs.Gathering.{GatheredTo, gathered_all, gathered_free, gathered_more, line_low}
-use borrow.Author.Rules.{rules}
+use Rattle.builder.proofs.Gathering.{GatheredTo}
 use Rattle.builder.proofs.marked.gather.Given as goal
 
 abbrev pub invariant-loop-i : goal.invariant-loop-i

@@ -1,6 +1,5 @@
 -- `line_of` meets its contract: 0 stays 0, and any other number is that of a place, whose first word has its line's number.
 use Rattle.builder.proofs.Marks.{number_at_lem}
-use borrow.Author.Rules.{rules}
 use Rattle.builder.proofs.marked.line_of.Goals as goal
 
 pub returns : goal.returns

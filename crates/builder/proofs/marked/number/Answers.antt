@@ -1,11 +1,8 @@
 -- `number` meets its contract. After i turns the marked places below i have their line numbers, and their third words name lines. A place
 -- calls only marked places before it, whose numbers are there already.
 use lib.ListN.{length-set}
-use mathlib.Core.Logic.{⊎_elim}
-use Prim.Native.Nat.{suc, ◌-◌}
 use native.Mathlib.Omega.{arith}
-use Rattle.builder.proofs.Numbering.{NumberedTo, numbered_none, numbered_all, numbered_free, numbered_more, called_inside}
-use borrow.Author.Rules.{rules}
+use Rattle.builder.proofs.Numbering.{numbered_none, numbered_all, numbered_free, numbered_more, called_inside}
 use Rattle.builder.proofs.marked.number.Goals as goal
 use Rattle.builder.proofs.marked.number.Goals.{else-space-i-ne0, then-space-i-ne0}
 

@@ -1,7 +1,6 @@
 -- `put` meets its contract: three words are written, one after the other.
 use lib.ListN.{length-set}
 use native.Mathlib.Omega.{arith}
-use borrow.Author.Rules.{rules}
 use Rattle.builder.proofs.marked.put.Goals as goal
 
 pub bounds-space-line-2 : goal.bounds-space-line-2

@@ -2,7 +2,6 @@
 use mathlib.Core.Path.{◌∙◌}
 use native.Mathlib.Omega.{arith}
 use Rattle.builder.proofs.Marks.{renamed_is}
-use borrow.Author.Rules.{rules}
 use Rattle.builder.proofs.marked.renamed.Goals as goal
 
 pub line_of-first-requires : goal.line_of-first-requires

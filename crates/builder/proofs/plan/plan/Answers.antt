@@ -3,10 +3,8 @@
 use Prim.Native.Nat.{suc, ◌-◌, ◌*◌}
 use mathlib.Core.Path.{◌≡◌, refl, sym, ◌∙◌}
 use native.Mathlib.Omega.{arith}
-use lib.ListN.{length, length-set}
-use Rattle.ground.specs.Failed.{Failed}
-use Rattle.builder.proofs.Planning.{PlannedFrom, planned_start, planned_all, planned_skip, planned_visit}
-use borrow.Author.Rules.{rules}
+use lib.ListN.{length-set}
+use Rattle.builder.proofs.Planning.{planned_start, planned_all, planned_skip, planned_visit}
 use Rattle.builder.proofs.plan.plan.Goals as goal
 
 pub loop-i-init : goal.loop-i-init

@@ -1,12 +1,10 @@
 -- `plan` goes down from the place asked for. Every marked place from i on has its line, and what those lines call is marked; what a place
 -- calls stands before it, so no mark comes too late.
-use Prim.Native.Nat.{suc, ◌-◌, ◌*◌}
-use mathlib.Core.Path.{◌≡◌, refl, sym, ◌∙◌}
-use native.Mathlib.Omega.{arith}
-use lib.ListN.{length, length-set}
+use Prim.Native.Nat.{◌*◌}
+use mathlib.Core.Path.{◌≡◌}
+use lib.ListN.{length}
 use Rattle.ground.specs.Failed.{Failed}
-use Rattle.builder.proofs.Planning.{PlannedFrom, planned_start, planned_all, planned_skip, planned_visit}
-use borrow.Author.Rules.{rules}
+use Rattle.builder.proofs.Planning.{PlannedFrom}
 use Rattle.builder.proofs.plan.plan.Given as goal
 
 abbrev pub invariant-loop-i : goal.invariant-loop-i

@@ -3,10 +3,8 @@
 use Prim.Native.Nat.{◌+◌, ◌*◌}
 use lib.ListN.{set, length-set}
 use Rattle.ground.specs.Grounded.{called_at}
-use mathlib.Core.Path.{◌∙◌}
 use Rattle.builder.proofs.{Layers.supplied_grounded, Planning.three_marks, Planning.written_long}
 use native.Mathlib.Omega.{arith}
-use borrow.Author.Rules.{rules}
 use Rattle.builder.proofs.plan.visit.Goals as goal
 
 pub ground-line-requires : goal.ground-line-requires

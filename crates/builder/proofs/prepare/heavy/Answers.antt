@@ -1,8 +1,6 @@
 -- `heavy` needs no more than that each rule lies within the block: any answer is right.
-use Prim.Native.Nat.{◌-◌, ◌≤◌}
 use native.Mathlib.Omega.{arith}
 use Rattle.block.proofs.ReadyBlocks.{ready_of}
-use borrow.Author.Rules.{rules}
 use Rattle.builder.proofs.prepare.heavy.Goals as goal
 
 pub loop-r-init : goal.loop-r-init

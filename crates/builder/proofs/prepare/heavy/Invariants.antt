@@ -1,8 +1,5 @@
 -- `heavy` needs no more than that each rule lies within the block: any answer is right.
 use Prim.Native.Nat.{◌-◌, ◌≤◌}
-use native.Mathlib.Omega.{arith}
-use Rattle.block.proofs.ReadyBlocks.{ready_of}
-use borrow.Author.Rules.{rules}
 use Rattle.builder.proofs.prepare.heavy.Given as goal
 
 abbrev pub invariant-loop-r : goal.invariant-loop-r

@@ -1,7 +1,6 @@
 -- `remembering` meets its contract: a memory of zeros holds no state.
 use Rattle.semantics.proofs.Coding.{zeros_at}
 use Rattle.ground.proofs.Failing.{failed_none}
-use borrow.Author.Rules.{rules}
 use Rattle.builder.proofs.prepare.remembering.Goals as goal
 
 pub plan-requires : goal.plan-requires

@@ -1,5 +1,4 @@
 -- `argument` reads argument j of a call, which has as many as its predicate's arity.
-use borrow.Author.Rules.{rules}
 use Prim.Native.Nat.{◌+◌}
 use native.Mathlib.Omega.{arith}
 use Rattle.block.specs.Layout.{call_place, call_arity}

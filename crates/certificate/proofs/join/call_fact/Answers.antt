@@ -1,5 +1,4 @@
 -- `call_fact` packs the call's four positions, those past its arity being 0.
-use borrow.Author.Rules.{rules}
 use mathlib.Core.{Path.◌∙◌, List.[], List.◌∷◌}
 use Prim.Native.Nat.{◌+◌}
 use native.Mathlib.Omega.{arith}

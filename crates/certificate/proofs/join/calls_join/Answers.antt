@@ -1,14 +1,12 @@
 -- `calls_join` passes the calls one by one. The invariant: all calls join to what was used at the start exactly if those that are left join
 -- to what is used now.
-use borrow.Author.Rules.{rules}
-use mathlib.Core.{Path.◌≡◌, Path.sym, Path.ap, Path.◌∙◌, Logic.◌↔◌}
-use Prim.Native.Nat.{◌+◌, ◌-◌, ◌%◌, ◌≤◌, ◌<◌}
+use mathlib.Core.{Path.◌≡◌, Path.sym, Path.ap, Path.◌∙◌}
+use Prim.Native.Nat.{◌+◌, ◌%◌, ◌<◌}
 use native.Mathlib.Omega.{arith}
 use Rattle.semantics.specs.{Certificate.fact_at, Fact.part_of}
 use Rattle.block.specs.Layout.{call_count}
-use Rattle.certificate.specs.Line.{given_by, CallsOf}
 use Rattle.words.proofs.{Answers.told_false, Answers.told_equal, Disjoint.sum_small}
-use Rattle.certificate.proofs.{Passing.CallsFrom, Passing.calls_step, Passing.calls_done}
+use Rattle.certificate.proofs.{Passing.calls_step, Passing.calls_done}
 use Rattle.certificate.proofs.join.calls_join.Goals as goal
 
 pub loop-c-init : goal.loop-c-init

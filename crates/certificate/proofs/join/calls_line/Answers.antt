@@ -1,5 +1,4 @@
 -- `calls_line` tests that the line is an earlier one, and compares its fact with the call's, for the line's own subheap.
-use borrow.Author.Rules.{rules}
 use native.Mathlib.Omega.{arith}
 use Rattle.words.proofs.Answers.{told_false}
 use Rattle.certificate.proofs.Passing.{line_told}

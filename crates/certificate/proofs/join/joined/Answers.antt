@@ -1,14 +1,12 @@
 -- `joined` passes the points-to atoms one by one. The invariant: all atoms and calls join exactly if those that are left join to the
 -- records used now. Only the first record as asked for counts, so what the search finds is the one.
-use borrow.Author.Rules.{rules}
-use mathlib.Core.Logic.{◌↔◌}
-use Prim.Native.Nat.{◌+◌, ◌-◌, ◌≤◌, ◌<◌}
+use Prim.Native.Nat.{◌+◌, ◌<◌}
 use native.Mathlib.Omega.{arith}
 use Rattle.semantics.specs.Tree.{asked}
 use Rattle.block.specs.Layout.{atom_in, atom_count, atom_place}
-use Rattle.certificate.specs.Line.{given_by, FirstRecord, CallsOf, JoinOf}
+use Rattle.certificate.specs.Line.{given_by, FirstRecord}
 use Rattle.words.proofs.{Answers.told_false, Answers.told_as, Disjoint.sum_small}
-use Rattle.certificate.proofs.Passing.{found_first, found_none, AtomsFrom, atoms_step, atoms_first, atoms_done}
+use Rattle.certificate.proofs.Passing.{found_first, found_none, atoms_step, atoms_first, atoms_done}
 use Rattle.certificate.proofs.join.joined.Goals as goal
 
 pub loop-g-init : goal.loop-g-init

@@ -1,9 +1,6 @@
 -- `positions_fit` passes the positions of a word one by one. The invariant: the whole word fits exactly if what is left of it does.
-use borrow.Author.Rules.{rules}
-use mathlib.Core.Logic.{◌↔◌}
 use native.Mathlib.Omega.{arith}
 use Rattle.words.proofs.Answers.{told_false, told_equal}
-use Rattle.certificate.specs.Line.{Positions}
 use Rattle.certificate.proofs.Positions.{positions_step, positions_done}
 use Rattle.certificate.proofs.line.positions_fit.Goals as goal
 

@@ -1,11 +1,7 @@
 -- `fields_match` passes the fields one by one: those passed are the positions of their terms, and the first that is not is the answer no.
-use borrow.Author.{Rules.rules, Count.below_none, Count.below_more}
-use mathlib.Core.Path.{◌≡◌, sym, ◌∙◌}
-use Prim.Native.Nat.{ℕ, ◌+◌, ◌-◌, ◌≤◌, ◌<◌}
+use borrow.Author.{Count.below_none, Count.below_more}
+use mathlib.Core.Path.{sym, ◌∙◌}
 use native.Mathlib.Omega.{arith}
-use lib.ListN.{get_or}
-use Rattle.semantics.specs.Tree.{value_of}
-use Rattle.block.specs.Layout.{term_in}
 use Rattle.words.proofs.Answers.{told_true, told_false}
 use Rattle.certificate.specs.Line.{given_by}
 use Rattle.block.proofs.TermsInBlock.{fields_are}

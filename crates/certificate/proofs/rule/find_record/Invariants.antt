@@ -1,12 +1,9 @@
 -- `find_record` passes the records one by one: none of those passed is as asked for, so the first that is comes first.
-use borrow.Author.{Rules.rules, Count.below_none, Count.below_more}
 use mathlib.Core.Logic.{◌≢◌}
 use Prim.Native.Nat.{ℕ, ◌-◌, ◌≤◌, ◌<◌}
-use native.Mathlib.Omega.{arith}
 use Rattle.semantics.specs.Tree.{asked}
 use Rattle.block.specs.Layout.{atom_in, record_in, atom_place, record_place}
 use Rattle.certificate.specs.Line.{given_by}
-use Rattle.certificate.specs.Line.FoundRecord.{found, none}
 use Rattle.certificate.proofs.rule.find_record.Given as goal
 
 abbrev pub invariant-loop-i : goal.invariant-loop-i

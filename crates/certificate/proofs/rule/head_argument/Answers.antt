@@ -1,5 +1,4 @@
 -- `head_argument` reads argument j of a head, whose arguments are its first variables.
-use borrow.Author.Rules.{rules}
 use mathlib.Core.Path.{◌∙◌}
 use Rattle.certificate.proofs.Reading.{head_at, head_past}
 use Rattle.certificate.proofs.rule.head_argument.Goals as goal

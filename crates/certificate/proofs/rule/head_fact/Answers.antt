@@ -1,5 +1,4 @@
 -- `head_fact` packs the head's four positions, those past its arity being 0.
-use borrow.Author.Rules.{rules}
 use mathlib.Core.{Path.ap, Path.◌∙◌, List.[], List.◌∷◌}
 use Prim.Native.Nat.{ℕ}
 use native.Mathlib.Omega.{arith}

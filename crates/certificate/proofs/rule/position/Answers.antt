@@ -1,5 +1,4 @@
 -- `position` reads a term by its byte: below 128 a variable's, from there on a fixed position's.
-use borrow.Author.Rules.{rules}
 use mathlib.Core.Path.{◌∙◌}
 use Rattle.block.proofs.TermsInBlock.{term_variable, term_fixed}
 use Rattle.certificate.specs.Line.{given_by}

@@ -1,5 +1,4 @@
 -- `pure_holds` compares the positions of the two terms, by the condition's kind.
-use borrow.Author.Rules.{rules}
 use Rattle.block.proofs.TermsInBlock.{pure_equal, pure_unequal}
 use Rattle.certificate.specs.Line.{given_by}
 use Rattle.certificate.proofs.rule.pure_holds.Goals as goal

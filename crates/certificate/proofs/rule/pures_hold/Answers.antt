@@ -1,11 +1,7 @@
 -- `pures_hold` passes the conditions one by one: those passed hold, and the first that does not is the answer no.
-use borrow.Author.{Rules.rules, Count.below_none, Count.below_more}
-use Prim.Native.Nat.{ℕ, ◌-◌, ◌≤◌, ◌<◌}
+use borrow.Author.{Count.below_none, Count.below_more}
 use native.Mathlib.Omega.{arith}
-use Rattle.semantics.specs.Tree.{Meets}
-use Rattle.block.specs.Layout.{pure_in, pure_place}
 use Rattle.words.proofs.Answers.{told_true, told_false}
-use Rattle.certificate.specs.Line.{given_by}
 use Rattle.certificate.proofs.rule.pures_hold.Goals as goal
 
 pub loop-k-init : goal.loop-k-init

@@ -1,5 +1,4 @@
 -- `record_matches` compares address, number of fields and fields.
-use borrow.Author.Rules.{rules}
 use mathlib.Core.Path.{◌∙◌, sym}
 use native.Mathlib.Omega.{arith}
 use Rattle.words.proofs.Answers.{told_false}

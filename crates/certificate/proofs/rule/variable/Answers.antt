@@ -1,5 +1,4 @@
 -- `variable` reads a digit of the word; a variable beyond the eighth has none.
-use borrow.Author.Rules.{rules}
 use mathlib.Core.Path.{◌∙◌, ap}
 use Prim.Native.Nat.{ℕ}
 use lib.ListN.{get_or}

@@ -2,7 +2,6 @@
 use mathlib.Core.Path.{◌≡◌, sym, ap, ◌∙◌}
 use Prim.Native.Nat.{◌<◌}
 use native.Mathlib.Omega.{arith}
-use borrow.Author.Rules.{rules}
 use lib.ListN.{get_or}
 use Rattle.block.specs.Layout.{atom_address, record_count, record_size}
 use Rattle.block.proofs.{HeapInBlock.records_few, Scopes.formed_fields}

@@ -1,14 +1,7 @@
 -- `along_atoms` goes along the points-to atoms one by one.
-use mathlib.Core.Path.{◌≡◌}
 use Prim.Native.Nat.{ℕ, ◌-◌, ◌≤◌}
-use native.Mathlib.Omega.{arith}
-use borrow.Author.Rules.{rules}
-use Rattle.block.specs.Layout.{atom_count}
-use Rattle.block.specs.Ready.{variables_in}
 use Rattle.finding.specs.Values.{Counted}
-use Rattle.finding.specs.Links.{AtomHas, AtomClosed, AlongAtomsAs}
-use Rattle.finding.proofs.Learning.{along_none, along_more}
-use Rattle.finding.proofs.Fields.{atom_stays}
+use Rattle.finding.specs.Links.{AlongAtomsAs}
 use Rattle.finding.proofs.links.along_atoms.Given as goal
 
 abbrev pub invariant-loop-g : goal.invariant-loop-g

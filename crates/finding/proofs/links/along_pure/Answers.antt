@@ -1,7 +1,6 @@
 -- `along_pure` goes along an equality from the left, or else from the right; a condition of the other kind leads nowhere.
 use mathlib.Core.{Path.◌≡◌, Logic.◌≢◌}
 use native.Mathlib.Omega.{arith}
-use borrow.Author.Rules.{rules}
 use Rattle.semantics.specs.Tree.{value_of}
 use Rattle.block.specs.Layout.{term_as, fixed_in, pure_kind, pure_left, pure_right}
 use Rattle.block.proofs.Scopes.{formed_left, formed_right}

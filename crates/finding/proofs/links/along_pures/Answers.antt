@@ -1,12 +1,9 @@
 -- `along_pures` goes along the conditions one by one.
 use mathlib.Core.Path.{◌≡◌}
-use Prim.Native.Nat.{◌-◌, ◌≤◌}
 use native.Mathlib.Omega.{arith}
-use borrow.Author.Rules.{rules}
 use Rattle.block.specs.Layout.{pure_count, fixed_in}
 use Rattle.block.specs.Ready.{variables_in}
-use Rattle.finding.specs.Values.{Counted}
-use Rattle.finding.specs.Links.{PureMet, PureClosed, AlongEach}
+use Rattle.finding.specs.Links.{PureMet, PureClosed}
 use Rattle.finding.proofs.Learning.{along_none, along_more}
 use Rattle.finding.proofs.Equalities.{pure_stays}
 use Rattle.finding.proofs.links.along_pures.Goals as goal

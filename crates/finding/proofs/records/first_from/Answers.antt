@@ -1,9 +1,7 @@
 -- `first_from` halves. Every record before `low` has an address below the value and none from `high` on has. The record in the middle settles
 -- this for all on one of its sides, since addresses ascend.
-use Prim.Native.Nat.{ℕ, ◌+◌, ◌-◌, ◌/◌, ◌≤◌, ◌<◌}
+use Prim.Native.Nat.{ℕ, ◌+◌, ◌/◌}
 use native.Mathlib.Omega.{arith}
-use borrow.Author.Rules.{rules}
-use Rattle.block.specs.Layout.{record_count, record_address}
 use Rattle.block.proofs.HeapInBlock.{records_few}
 use Rattle.finding.proofs.Addresses.{up, down}
 use Rattle.finding.proofs.records.first_from.Goals as goal

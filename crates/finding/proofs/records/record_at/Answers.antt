@@ -1,6 +1,5 @@
 -- `record_at` looks at the first record that is not below the address: it is the one, or there is none.
 use native.Mathlib.Omega.{arith}
-use borrow.Author.Rules.{rules}
 use Rattle.block.proofs.HeapInBlock.{records_few}
 use Rattle.finding.specs.Records.RecordAt.{found, none}
 use Rattle.finding.proofs.Addresses.{nowhere}

@@ -1,7 +1,6 @@
 -- `entry` reads a term by its byte: below 128 a variable's entry, from there on a fixed value.
 use mathlib.Core.{Path.◌∙◌, Logic.⊎_elim}
 use native.Mathlib.Omega.{arith}
-use borrow.Author.Rules.{rules}
 use Rattle.block.specs.Layout.{fixed_in}
 use Rattle.block.proofs.TermsInBlock.{term_variable, term_fixed}
 use Rattle.finding.proofs.values.entry.Goals as goal

@@ -3,7 +3,6 @@ use mathlib.Core.{Path.refl, Path.◌∙◌, Logic.⊎_elim}
 use Prim.Native.Nat.{ℕ, ◌<◌}
 use native.Mathlib.Omega.{arith}
 use lib.ListN.{length-set}
-use borrow.Author.Rules.{rules}
 use Rattle.block.specs.Ready.{Scoped}
 use Rattle.finding.specs.Values.Learnt.{kept, given}
 use Rattle.finding.proofs.Opens.{opens_less}

@@ -1,12 +1,10 @@
 -- `apart` passes the conditions one by one: those passed are met by the entries, and the first that is not is the answer no.
-use borrow.Author.{Rules.rules, Count.below_more}
-use mathlib.Core.{Path.◌≡◌, Logic.◌≢◌, Logic.⊎_elim}
-use Prim.Native.Nat.{◌-◌, ◌≤◌}
+use borrow.Author.{Count.below_more}
+use mathlib.Core.{Path.◌≡◌, Logic.◌≢◌}
 use native.Mathlib.Omega.{arith}
-use Rattle.block.specs.Layout.{fixed_in, pure_count, pure_kind}
+use Rattle.block.specs.Layout.{pure_count, pure_kind}
 use Rattle.block.proofs.Scopes.{formed_left, formed_right}
 use Rattle.words.proofs.Answers.{told_true, told_false}
-use Rattle.plain.specs.Classes.{entries_of, UnequalsMet}
 use Rattle.plain.proofs.Conditions.{entries_apart, entries_same}
 use Rattle.plain.proofs.classes.apart.Goals as goal
 use Rattle.plain.proofs.classes.apart.Goals.{else-pure_kind-ne0, then-pure_kind-ne0+else-x-y}

@@ -1,5 +1,4 @@
 -- `entry` reads a term by its byte: a variable's entry at its seat, or a fixed value.
-use borrow.Author.Rules.{rules}
 use mathlib.Core.{Path.◌∙◌, Logic.⊎_elim}
 use native.Mathlib.Omega.{arith}
 use Rattle.block.specs.Layout.{fixed_in}

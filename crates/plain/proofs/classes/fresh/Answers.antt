@@ -1,9 +1,8 @@
 -- `fresh` gives each entry its own label.
-use borrow.Author.{Rules.rules}
 use mathlib.Core.Path.{◌≡◌, refl, ◌∙◌}
-use Prim.Native.Nat.{ℕ, ◌+◌, ◌-◌, ◌≤◌, ◌<◌}
+use Prim.Native.Nat.{◌+◌}
 use native.Mathlib.Omega.{arith}
-use lib.ListN.{length, get_or, length-set}
+use lib.ListN.{length-set}
 use Rattle.finding.specs.Values.{open_entry}
 use Rattle.plain.proofs.Stores.{stored}
 use Rattle.plain.proofs.classes.fresh.Goals as goal

@@ -1,11 +1,8 @@
 -- `fresh` gives each entry its own label.
-use borrow.Author.{Rules.rules}
-use mathlib.Core.Path.{◌≡◌, refl, ◌∙◌}
+use mathlib.Core.Path.{◌≡◌}
 use Prim.Native.Nat.{ℕ, ◌+◌, ◌-◌, ◌≤◌, ◌<◌}
-use native.Mathlib.Omega.{arith}
-use lib.ListN.{length, get_or, length-set}
+use lib.ListN.{length, get_or}
 use Rattle.finding.specs.Values.{open_entry}
-use Rattle.plain.proofs.Stores.{stored}
 use Rattle.plain.proofs.classes.fresh.Given as goal
 
 abbrev pub invariant-loop-v : goal.invariant-loop-v

@@ -1,5 +1,4 @@
 -- `join` meets its contract: the cases of `Joined`, one for each return.
-use borrow.Author.Rules.{rules}
 use mathlib.Core.Path.{refl}
 use Rattle.plain.specs.Classes.{Joined}
 use Rattle.plain.proofs.classes.join.Goals as goal

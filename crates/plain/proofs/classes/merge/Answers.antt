@@ -1,12 +1,11 @@
 -- `merge` merges the equalities one by one: what follows the classes is what meets those merged so far.
-use borrow.Author.{Rules.rules, Count.below_more}
+use borrow.Author.{Count.below_more}
 use mathlib.Core.{Path.◌≡◌, Path.refl}
-use Prim.Native.Nat.{◌+◌, ◌-◌, ◌≤◌}
+use Prim.Native.Nat.{◌+◌}
 use native.Mathlib.Omega.{arith}
-use lib.ListN.{length}
 use Rattle.block.specs.Layout.{fixed_in, pure_count}
 use Rattle.plain.specs.Classes.{EqualMet, EqualsMet, Merged}
-use Rattle.plain.proofs.Merging.{MergedTo, merged_more, merged_never}
+use Rattle.plain.proofs.Merging.{merged_more, merged_never}
 use Rattle.plain.proofs.classes.merge.Goals as goal
 
 pub loop-k-init : goal.loop-k-init

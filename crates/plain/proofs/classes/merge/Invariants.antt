@@ -1,12 +1,10 @@
 -- `merge` merges the equalities one by one: what follows the classes is what meets those merged so far.
-use borrow.Author.{Rules.rules, Count.below_more}
-use mathlib.Core.{Path.◌≡◌, Path.refl}
-use Prim.Native.Nat.{◌+◌, ◌-◌, ◌≤◌}
-use native.Mathlib.Omega.{arith}
+use mathlib.Core.{Path.◌≡◌}
+use Prim.Native.Nat.{◌-◌, ◌≤◌}
 use lib.ListN.{length}
-use Rattle.block.specs.Layout.{fixed_in, pure_count}
-use Rattle.plain.specs.Classes.{EqualMet, EqualsMet, Merged}
-use Rattle.plain.proofs.Merging.{MergedTo, merged_more, merged_never}
+use Rattle.block.specs.Layout.{fixed_in}
+use Rattle.plain.specs.Classes.{EqualsMet}
+use Rattle.plain.proofs.Merging.{MergedTo}
 use Rattle.plain.proofs.classes.merge.Given as goal
 
 abbrev pub invariant-loop-k : goal.invariant-loop-k

@@ -1,5 +1,4 @@
 -- `merge_pure` joins the entries of the two sides of an equality; another condition merges nothing.
-use borrow.Author.Rules.{rules}
 use native.Mathlib.Omega.{arith}
 use Rattle.block.proofs.Scopes.{formed_left, formed_right}
 use Rattle.plain.proofs.{Merging.merged_still, Conditions.equality_merged}

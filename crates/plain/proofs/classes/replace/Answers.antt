@@ -1,9 +1,7 @@
 -- `replace` passes the entries one by one: each x becomes y.
-use borrow.Author.Rules.{rules}
-use mathlib.Core.{Path.refl, Logic.⊎_elim}
-use Prim.Native.Nat.{◌-◌, ◌≤◌}
+use mathlib.Core.{Path.refl}
 use native.Mathlib.Omega.{arith}
-use Rattle.plain.proofs.Stores.{ReplacedTo, replaced_hit, replaced_miss}
+use Rattle.plain.proofs.Stores.{replaced_hit, replaced_miss}
 use Rattle.plain.proofs.classes.replace.Goals as goal
 use Rattle.plain.proofs.classes.replace.Goals.{else-classes-i, then-classes-i}
 

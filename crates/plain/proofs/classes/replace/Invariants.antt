@@ -1,9 +1,6 @@
 -- `replace` passes the entries one by one: each x becomes y.
-use borrow.Author.Rules.{rules}
-use mathlib.Core.{Path.refl, Logic.⊎_elim}
 use Prim.Native.Nat.{◌-◌, ◌≤◌}
-use native.Mathlib.Omega.{arith}
-use Rattle.plain.proofs.Stores.{ReplacedTo, replaced_hit, replaced_miss}
+use Rattle.plain.proofs.Stores.{ReplacedTo}
 use Rattle.plain.proofs.classes.replace.Given as goal
 
 abbrev pub invariant-loop-i : goal.invariant-loop-i

@@ -1,5 +1,4 @@
 -- `excludes` takes a glance at the two rules, and then asks whether they overlap.
-use borrow.Author.Rules.{rules}
 use Rattle.words.proofs.Answers.{told_true, told_false}
 use Rattle.plain.proofs.Exclusion.{excluded, not_excluded, parted_excluded, not_parted}
 use Rattle.plain.proofs.excluding.excludes.Goals as goal

@@ -1,5 +1,5 @@
 -- `kinds_differ` looks at the kinds one after the other.
-use borrow.Author.{Rules.rules, Tests.eqb-true, Tests.eqb-false, Tests.not-true}
+use borrow.Author.{Tests.eqb-true, Tests.eqb-false, Tests.not-true}
 use mathlib.Core.{Path.sym, Path.◌∙◌, Logic.inl, Logic.inr}
 use lib.Dec.{eqb}
 use Rattle.plain.proofs.excluding.kinds_differ.Goals as goal

@@ -1,5 +1,4 @@
 -- `opposed` compares counts, terms and kinds of two conditions. A no says nothing.
-use borrow.Author.Rules.{rules}
 use mathlib.Core.{Bool.false≢true, Path.◌≡◌}
 use Prim.Native.Nat.{ℕ}
 use native.Mathlib.Omega.{arith}

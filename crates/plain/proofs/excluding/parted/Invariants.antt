@@ -1,9 +1,5 @@
 -- `parted` compares the predicates, and then condition after condition. The way there is of no use: only a yes says anything.
-use borrow.Author.Rules.{rules}
-use mathlib.Core.{Path.refl, Path.sym, Path.◌∙◌}
-use Prim.Native.Nat.{ℕ, ◌-◌, ◌≤◌}
-use native.Mathlib.Omega.{arith}
-use Rattle.plain.specs.Opposed.{Parted}
+use Prim.Native.Nat.{◌-◌, ◌≤◌}
 use Rattle.plain.proofs.excluding.parted.Given as goal
 
 abbrev pub invariant-loop-k : goal.invariant-loop-k

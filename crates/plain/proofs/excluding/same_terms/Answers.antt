@@ -1,5 +1,5 @@
 -- `same_terms` compares left with left and right with right, and then crosswise.
-use borrow.Author.{Rules.rules, Tests.eqb-true}
+use borrow.Author.{Tests.eqb-true}
 use mathlib.Core.{Bool.false≢true, Path.sym, Path.◌∙◌, Logic.inl, Logic.inr}
 use Rattle.plain.proofs.excluding.same_terms.Goals as goal
 

@@ -1,8 +1,8 @@
 -- `shared` tells a fixed value by its byte, and compares any other with the number of arguments.
-use borrow.Author.{Rules.rules, Tests.ltb-true, Tests.ltb-false}
+use borrow.Author.{Tests.ltb-true, Tests.ltb-false}
 use mathlib.Core.Logic.{inl, inr, ⊎_elim}
 use mathlib.Core.Path.{◌≡◌}
-use Prim.Native.Nat.{ℕ, ◌≤◌, ◌<◌}
+use Prim.Native.Nat.{ℕ, ◌<◌}
 use native.Mathlib.Omega.{arith}
 use lib.Dec.{ltb}
 use Rattle.words.specs.Told.{Told}

@@ -1,13 +1,7 @@
 -- `along_atoms` passes each points-to atom from its address to its fields.
-use borrow.Author.Rules.{rules}
-use mathlib.Core.Path.{◌≡◌}
-use Prim.Native.Nat.{◌-◌, ◌≤◌, ◌<◌}
-use native.Mathlib.Omega.{arith}
-use Rattle.block.specs.Layout.{atom_count}
-use Rattle.block.proofs.Scopes.{formed_address, formed_fields}
+use Prim.Native.Nat.{◌-◌, ◌≤◌}
 use Rattle.finding.specs.Values.{Counted}
 use Rattle.plain.specs.Fixing.{AlongEach, AtomClosed}
-use Rattle.plain.proofs.Links.{along_none, along_more, along_fields, atom_stays}
 use Rattle.plain.proofs.fixing.along_atoms.Given as goal
 
 abbrev pub invariant-loop-g : goal.invariant-loop-g

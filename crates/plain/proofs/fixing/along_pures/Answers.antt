@@ -1,12 +1,9 @@
 -- `along_pures` goes along the conditions one by one.
-use borrow.Author.Rules.{rules}
 use mathlib.Core.Path.{◌≡◌}
-use Prim.Native.Nat.{◌-◌, ◌≤◌}
 use native.Mathlib.Omega.{arith}
 use Rattle.block.specs.Layout.{pure_count}
-use Rattle.finding.specs.{Values.Counted, Links.PureClosed}
+use Rattle.finding.specs.{Links.PureClosed}
 use Rattle.finding.proofs.Equalities.{pure_stays}
-use Rattle.plain.specs.Fixing.{AlongEach}
 use Rattle.plain.proofs.Links.{along_none, along_more}
 use Rattle.plain.proofs.fixing.along_pures.Goals as goal
 

@@ -1,10 +1,6 @@
 -- `fix` marks the terms one by one.
-use borrow.Author.Rules.{rules}
 use mathlib.Core.Path.{◌≡◌}
-use Prim.Native.Nat.{◌-◌, ◌≤◌}
 use native.Mathlib.Omega.{arith}
-use Rattle.finding.specs.Values.{Counted}
-use Rattle.plain.specs.Fixing.{Given}
 use Rattle.plain.proofs.Links.{given_none, given_more}
 use Rattle.plain.proofs.fixing.fix.Goals as goal
 

@@ -1,5 +1,5 @@
 -- `fixed` looks at a variable's entry; any other term is a fixed value.
-use borrow.Author.{Rules.rules, Tests.ltb-true, Tests.ltb-false}
+use borrow.Author.{Tests.ltb-true, Tests.ltb-false}
 use mathlib.Core.{Logic.⊎_elim}
 use Prim.Native.Nat.{ℕ, ◌<◌}
 use native.Mathlib.Omega.{arith}

@@ -3,9 +3,8 @@ use mathlib.Core.{List.List, Path.refl}
 use Prim.Native.Nat.{ℕ}
 use native.Mathlib.Omega.{arith}
 use Rattle.words.proofs.Answers.{told_true, told_false}
-use Rattle.finding.specs.{Values.opens, Values.Counted, Links.Keeps}
+use Rattle.finding.specs.{Values.opens, Links.Keeps}
 use Rattle.finding.proofs.{Opens.opens_kept, Learning.keeps_then}
-use Rattle.plain.specs.Fixing.{Sound}
 use Rattle.plain.proofs.Links.{turn_keeps, still_turn, begins_sound, not_all_fixed, all_marked}
 use Rattle.plain.proofs.fixing.fixes.Goals as goal
 

@@ -1,5 +1,4 @@
 -- `pass` marks the terms if the one that it comes from is marked.
-use borrow.Author.Rules.{rules}
 use mathlib.Core.Path.{refl}
 use Rattle.plain.specs.Fixing.{Passes}
 use Rattle.plain.proofs.fixing.pass.Goals as goal

@@ -1,5 +1,4 @@
 -- `attempt` asks for what a choice needs, one after the other; the first that is missing rules the choice out.
-use borrow.Author.Rules.{rules}
 use mathlib.Core.Path.{◌≡◌, refl}
 use native.Mathlib.Omega.{arith}
 use Rattle.block.specs.Layout.{head_in}

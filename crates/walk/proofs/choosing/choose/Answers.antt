@@ -1,11 +1,9 @@
 -- `choose` tries the rules one after the other: those passed cannot be chosen in a plain rule set.
-use borrow.Author.{Rules.rules, Count.below_none, Count.below_more}
+use borrow.Author.{Count.below_none, Count.below_more}
 use mathlib.Core.Path.{refl}
-use Prim.Native.Nat.{ℕ, ◌-◌, ◌≤◌, ◌<◌}
 use native.Mathlib.Omega.{arith}
-use Rattle.block.specs.Layout.{rule_as, fixed_in, constants_in, rule_place}
+use Rattle.block.specs.Layout.{fixed_in, constants_in}
 use Rattle.block.proofs.RuleAs.{rule-number}
-use Rattle.walk.specs.Walk.{NotChosen}
 use Rattle.walk.specs.Walk.Chooses.{chosen, nothing}
 use Rattle.plain.proofs.Places.{place_of}
 use Rattle.walk.proofs.Trying.{attempt_chosen, attempt_nothing}

@@ -1,12 +1,10 @@
 -- `fields_match` passes the fields one by one: those passed are the values of their terms, and the first that is not is the answer no.
-use borrow.Author.{Rules.rules, Count.below_none, Count.below_more}
-use mathlib.Core.Path.{◌≡◌, sym, ◌∙◌}
-use Prim.Native.Nat.{ℕ, ◌+◌, ◌-◌, ◌≤◌, ◌<◌}
+use borrow.Author.{Count.below_none, Count.below_more}
+use mathlib.Core.Path.{sym, ◌∙◌}
+use Prim.Native.Nat.{◌+◌}
 use native.Mathlib.Omega.{arith}
-use lib.ListN.{get_or}
-use Rattle.semantics.specs.Tree.{value_of}
 use Rattle.words.proofs.Answers.{told_true, told_false}
-use Rattle.block.specs.Layout.{term_as, fixed_in, record_field, record_place}
+use Rattle.block.specs.Layout.{fixed_in, record_place}
 use Rattle.block.proofs.TermsInBlock.{fields_are}
 use Rattle.walk.proofs.taking.fields_match.Goals as goal
 

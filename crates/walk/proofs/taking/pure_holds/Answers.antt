@@ -1,5 +1,4 @@
 -- `pure_holds` compares the values of the two terms, by the condition's kind.
-use borrow.Author.Rules.{rules}
 use native.Mathlib.Omega.{arith}
 use Rattle.block.specs.Layout.{fixed_in}
 use Rattle.block.proofs.Scopes.{formed_left, formed_right}

@@ -1,10 +1,7 @@
 -- `pures_hold` passes the conditions one by one: those passed hold, and the first that does not is the answer no.
-use borrow.Author.{Rules.rules, Count.below_none, Count.below_more}
 use Prim.Native.Nat.{ℕ, ◌-◌, ◌≤◌, ◌<◌}
-use native.Mathlib.Omega.{arith}
 use Rattle.semantics.specs.Tree.{Meets}
 use Rattle.block.specs.Layout.{pure_as, fixed_in, pure_place}
-use Rattle.words.proofs.Answers.{told_true, told_false}
 use Rattle.walk.proofs.taking.pures_hold.Given as goal
 
 abbrev pub invariant-loop-k : goal.invariant-loop-k

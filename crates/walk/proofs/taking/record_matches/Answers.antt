@@ -1,5 +1,4 @@
 -- `record_matches` compares the numbers of fields, then the fields; the address is given.
-use borrow.Author.Rules.{rules}
 use native.Mathlib.Omega.{arith}
 use Rattle.block.specs.Layout.{fixed_in}
 use Rattle.words.proofs.Answers.{told_false}

@@ -1,10 +1,8 @@
 -- `take` passes the atoms one by one: what the atoms that are left take from the mask of the moment, all take from the first mask.
-use borrow.Author.Rules.{rules}
 use mathlib.Core.Path.{refl}
-use Prim.Native.Nat.{◌-◌, ◌≤◌}
 use native.Mathlib.Omega.{arith}
-use Rattle.semantics.proofs.WalkLoops.{AtomsLeft, atoms_start, atoms_end}
-use Rattle.block.specs.Layout.{heap_in, rule_as, fixed_in}
+use Rattle.semantics.proofs.WalkLoops.{atoms_start, atoms_end}
+use Rattle.block.specs.Layout.{fixed_in}
 use Rattle.walk.specs.Taking.TakesAll.{taken, stuck}
 use Rattle.walk.proofs.TakingRecords.{atom_here, atoms_past, taken_next, stuck_stop}
 use Rattle.walk.proofs.taking.take.Goals as goal

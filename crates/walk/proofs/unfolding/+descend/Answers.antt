@@ -1,13 +1,10 @@
 -- `descend` meets its contract. Without fuel there is no tree; without a choice a plain rule set has none. Else the calls of the chosen rule are
 -- unfolded one after the other: what those that are left come to from the mask of the moment, all come to from the mask after the choice. The
 -- fuel is the measure.
-use borrow.Author.Rules.{rules}
 use mathlib.Core.{Path.◌∙◌}
-use Prim.Native.Nat.{ℕ, ◌-◌, ◌≤◌, ◌<◌}
 use native.Mathlib.Omega.{arith}
-use Rattle.semantics.proofs.{WalkSteps.fuel_stop, WalkSteps.node_stop, WalkLoops.CallsLeft, WalkLoops.left_start, WalkLoops.left_end, WalkLoops.left_stop, WalkLoops.left_next}
-use Rattle.block.specs.Layout.{rule_as, rule_set_read, fixed_in, heap_in}
-use Rattle.walk.specs.Walk.{values_in}
+use Rattle.semantics.proofs.{WalkSteps.fuel_stop, WalkSteps.node_stop, WalkLoops.left_start, WalkLoops.left_end, WalkLoops.left_stop, WalkLoops.left_next}
+use Rattle.block.specs.Layout.{fixed_in}
 use Rattle.walk.proofs.Descending.{call_here, calls_past, call_outcome, chosen_outcome, choice_made, choice_none}
 use Rattle.walk.proofs.unfolding.+descend.Goals as goal
 
