@@ -20,8 +20,8 @@
  * A field, a value of the question or a constant FFFFFFFF is read as 0, which is nil.
  *
  * Nothing is allocated, nothing that is lent is changed or kept, and no byte outside a block is read. A block of no bytes may have any
- * pointer that is not null. The entries share nothing, so several threads may call them at once. On the stack desk_decide
- * uses 125,192 bytes and desk_check 27,032, measured by compare/memory.sh.
+ * pointer that is not null. The entries share nothing, so several threads may call them at once. With an older kit desk_decide
+ * used 125,192 bytes of stack and desk_check 27,032, measured by compare/memory.sh, and not again since.
  */
 #ifndef DESK_H
 #define DESK_H
