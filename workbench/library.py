@@ -203,7 +203,7 @@ def _run(command: list[str], folder: Path, lock: int) -> None:
         try:
             for line in child.stdout or ():
                 text = line.decode(errors="replace").rstrip()
-                if text.startswith("rt: "):
+                if text.startswith(("rt: ", "crate ")):
                     say_wrong(f"  {text}\n")
                 else:
                     others.append(text)

@@ -57,7 +57,7 @@ term-byte value values b n h = step (dec_lt b 128)
     step (yes l) = inl (rw (lt-ltb b 128 l, InScope) at h)
     step (no l) = inr (omega arith, rw (le-ltb b 128 (omega arith), InScope) at h)
 
--- A rule of a well_formed rule set.
+-- A rule of a well-formed rule set.
 module _ (value : ℕ → ℕ) (constants rules : List ℕ) (formed : WellFormed (rule_set_as value constants rules)) where
   pub arity_few : (p : ℕ) → p < predicate_count rules → arity_in rules p ≤ 4
   arity_few p h = omega (arith, arity_is value constants rules p h, formed.arguments_few p)

@@ -1,4 +1,4 @@
--- What the loops over a rule's calls and points_to atoms pass: what is left of a join after the first call or atom, and at the end.
+-- What the loops over a rule's calls and points-to atoms pass: what is left of a join after the first call or atom, and at the end.
 use mathlib.Core.{Path.◌≡◌, Path.sym, Path.ap₂, Path.◌∙◌, List.List, List.[], List.◌∷◌, Logic.◌↔◌}
 use Prim.Native.Nat.{ℕ, ◌+◌, ◌/◌, ◌%◌, ◌^◌, ◌≤◌, ◌<◌}
 use native.Mathlib.{Omega.arith, Numerals.add-one, Decide.dec_lt}
@@ -56,7 +56,7 @@ module _ (rules : List ℕ) (rule c : ℕ) {words : List ℕ} {k : ℕ} {σ : Li
       last : CallsJoin words k σ part [] lines used → (lines ≡ 0) × (used ≡ part)
       last (CallsJoin.done e u) = (e, u)
 
--- ---- points_to atoms
+-- ---- points-to atoms
 
 -- what the search for a record found
 pub found_first : {records : List ℕ} {wanted : Record} {r : ℕ} → FoundRecord records wanted r → r < record_count records → FirstRecord records wanted r

@@ -47,7 +47,7 @@ unfoldable pub finds : ℕ → Heap → Record → List ℕ
 finds k [] r = []
 finds k (p ∷ heap) r = when (same_record p r) k ++ finds (suc k) heap r
 
--- the records that points_to atoms take, in each way
+-- the records that points-to atoms take, in each way
 unfoldable pub takings : Heap → List ℕ → List PointsTo → List (List ℕ)
 takings heap σ [] = [] ∷ []
 takings heap σ (c ∷ atoms) = flat_map (λ (i : ℕ). map (λ (is : List ℕ). i ∷ is) (takings heap σ atoms)) (finds 0 heap (asked σ c))

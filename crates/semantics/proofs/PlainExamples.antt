@@ -262,7 +262,7 @@ loose_alone = (
   λ i j l h. absurd (omega arith),
 )
 
--- One with a call and no points_to atom.
+-- One with a call and no points-to atom.
 abbrev pub endless : Rule
 endless = record { head = 0; bound = 0; pures = []; points_to = []; calls = record { predicate = 0; arguments = var 0 ∷ [] } ∷ [] }
 

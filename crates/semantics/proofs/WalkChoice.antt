@@ -1,4 +1,4 @@
--- The choice of a rule: its points_to atoms take free records, and the reasons why it cannot be chosen. In a plain rule set it can be chosen
+-- The choice of a rule: its points-to atoms take free records, and the reasons why it cannot be chosen. In a plain rule set it can be chosen
 -- with the values found for its variables only.
 use mathlib.Core.{Path.◌≡◌, Path.refl, Path.sym, Path.ap, Path.◌∙◌, Path.subst, Logic.◌↔◌, Logic.◌≢◌}
 use mathlib.Core.{Option.none, Option.some, List.List, List.[], List.◌∷◌, List.◌++◌}
@@ -9,7 +9,7 @@ use Rattle.semantics.specs.{Lists.◌among◌, Heap.Record, Heap.Heap, Heap.Orde
 use Rattle.semantics.specs.{Found.Known, Found.Agrees, Found.AllFound, WalkOutcome.Marks, WalkOutcome.TakesFreely, WalkOutcome.Chosen, WalkOutcome.Choosable}
 use Rattle.semantics.proofs.{Addresses.address_once, FoundFacts.none_open, FoundFacts.found_values}
 
--- ---- one points_to atom before others
+-- ---- one points-to atom before others
 
 -- the record that it takes, and what is left for the others
 record First (heap : Heap) (σ : List ℕ) (atom : PointsTo) (atoms : List PointsTo) (mask after : ℕ) : Type 0 where
@@ -68,7 +68,7 @@ module _ {rule_set : RuleSet} {heap : Heap} {mask p : ℕ} {arguments : List ℕ
       pub left_open : (v : ℕ) → v < length env → get_or env v (some 0) ≡ none → ¬ Choosable rule_set heap mask p arguments rule
       left_open v h e c = none_open found c.applies (plain.all_fixed rule c.applies.listed) v h e
 
-      -- with the values found, a pure condition is not met, or the points_to atoms take no free records
+      -- with the values found, a pure condition is not met, or the points-to atoms take no free records
       module _ (σ : List ℕ) (long : length σ ≡ length env) (agrees : Agrees env σ) where
         values_of : (c : Choosable rule_set heap mask p arguments rule) → arguments ++ c.bound ≡ σ
         values_of c = sym (found_values found c.applies (plain.all_fixed rule c.applies.listed) σ long agrees)

@@ -6,7 +6,7 @@ use Rattle.semantics.specs.RuleSet.{Term, var, fixed, equal, Pure, PointsTo, Rul
 
 -- ---- rules that call take a record
 
--- Where the rule has calls, it has a points_to atom.
+-- Where the rule has calls, it has a points-to atom.
 abbrev pub Consumes : Rule → Type 0
 Consumes rule = rule.calls ≢ [] → rule.points_to ≢ []
 
@@ -20,7 +20,7 @@ abbrev pub equals : Term → Term → Pure
 equals left right = record { kind = equal; left = left; right = right }
 
 -- Which terms of a rule are fixed: a fixed value (nil or a constant), the head's variables, and what is reached from these, along an
--- equality either way round or from the address of a points_to atom to a field. How the rule is written decides this: a contradiction by
+-- equality either way round or from the address of a points-to atom to a field. How the rule is written decides this: a contradiction by
 -- itself fixes nothing.
 pub data Fixed (rule_set : RuleSet) (rule : Rule) : Term → Type 0 where
   fixed_value : {x : ℕ} → Fixed rule_set rule (fixed x)

@@ -18,7 +18,7 @@ pub record Pure : Type 0 where
   pub left : Term
   pub right : Term
 
--- A points_to atom (paper 01: a cell): exactly one record. `address` is a variable's number.
+-- A points-to atom (paper 01: a cell): exactly one record. `address` is a variable's number.
 pub record PointsTo : Type 0 where
   pub address : ℕ
   pub fields : List Term

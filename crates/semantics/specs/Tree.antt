@@ -22,18 +22,18 @@ Compare unequal a b = a ≢ b
 abbrev pub Meets : List ℕ → Pure → Type 0
 Meets σ pure = Compare pure.kind (value_of σ pure.left) (value_of σ pure.right)
 
--- The record that a points_to atom asks for.
+-- The record that a points-to atom asks for.
 abbrev pub asked : List ℕ → PointsTo → Record
 asked σ atom = record { address = get_or σ atom.address 0; fields = values_of σ atom.fields }
 
--- The points_to atoms take the records of these numbers, in order.
+-- The points-to atoms take the records of these numbers, in order.
 pub data Takes (heap : Heap) (σ : List ℕ) : List PointsTo → List ℕ → Type 0 where
   none : Takes heap σ [] []
   atom : {atom : PointsTo} {atoms : List PointsTo} {i : ℕ} {indices : List ℕ}
       → i < length heap → get_or heap i blank ≡ asked σ atom → Takes heap σ atoms indices
       → Takes heap σ (atom ∷ atoms) (i ∷ indices)
 
--- A rule of the rule set with values for its variables, whose pure conditions hold and whose points_to atoms take the records `indices`.
+-- A rule of the rule set with values for its variables, whose pure conditions hold and whose points-to atoms take the records `indices`.
 -- Trees by hand and the engine's rounds both rest on this.
 pub record Applies (rule_set : RuleSet) (heap : Heap) (rule : Rule) (arguments bound indices : List ℕ) : Type 0 where
   pub listed : rule among rule_set.rules

@@ -1,4 +1,4 @@
--- The record that a points_to atom asks for is the one at its address, so that one look decides; and atom after atom, what the rest takes.
+-- The record that a points-to atom asks for is the one at its address, so that one look decides; and atom after atom, what the rest takes.
 use mathlib.Core.{Bool.true, Bool.false, Bool.false≢true, Path.◌≡◌, Path.sym, Path.ap, Path.◌∙◌, List.List, List.[], List.◌∷◌}
 use Prim.Native.Nat.{ℕ, ◌+◌, ◌≤◌, ◌<◌}
 use native.Mathlib.Omega.{arith}

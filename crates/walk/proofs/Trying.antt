@@ -1,4 +1,4 @@
--- A rule tried with the values found for its variables: it is chosen if all are found, its pure conditions are met and its points_to atoms
+-- A rule tried with the values found for its variables: it is chosen if all are found, its pure conditions are met and its points-to atoms
 -- take free records; otherwise a plain rule set leaves no way to choose it.
 use mathlib.Core.{Bool.Bool, Bool.true, Bool.false, Bool.false≢true, Path.◌≡◌, Path.refl, Path.sym, Path.ap, Path.◌∙◌, Path.subst, Logic.◌≢◌, Logic.by_cases}
 use mathlib.Core.List.Memᴰ
@@ -105,7 +105,7 @@ module _ {given rules heap : List ℕ} (readable : Readable given rules heap) {r
     pub not_met_values : {mask : ℕ} → ¬ PuresMet (fixed_in given) rules rule values → NotChosen given rules heap predicate arguments mask (rule_as (fixed_in given) rules rule)
     not_met_values n plain = not_met plain found_for (values_in rules rule values) long agrees (λ met. n (met_pures readable.rules_read place known met))
 
-    -- the points_to atoms take no free records
+    -- the points-to atoms take no free records
     pub not_free_values : {mask : ℕ} → ((after : ℕ) → ¬ TakesFreely (heap_in heap) values (rule_as (fixed_in given) rules rule).points_to mask after) → NotChosen given rules heap predicate arguments mask (rule_as (fixed_in given) rules rule)
     not_free_values n plain =
         not_free plain found_for (values_in rules rule values) long agrees (λ after t. n after (freely_as (asks_same readable.rules_read place known) t))

@@ -1,4 +1,4 @@
--- A rule against the values σ of its variables and the fixed values: its pure conditions, and the records that its points_to atoms take,
+-- A rule against the values σ of its variables and the fixed values: its pure conditions, and the records that its points-to atoms take,
 -- each of which was free.
 use mathlib.Core.{Bool.Bool, Bool.true, Bool.false, List.List, Path.◌≡◌}
 use Rattle.std.specs.Prelude.{ℕ, ◌+◌, ◌^◌, ◌<◌, length, get_or}
