@@ -1,6 +1,6 @@
 // Numbers of four bytes, and the values that fields, queries and constants have.
 ghost use Rattle.std.specs.Prelude.{◌≡◌, ◌+◌, ◌≤◌, ◌<◌, length};
-ghost use Rattle.semantics.specs.Reader.{word as wordReader};
+ghost use Rattle.semantics.specs.Reader.{word as word_reader};
 ghost use Rattle.semantics.specs.Formats.{as_read};
 ghost use Rattle.reader.specs.Cursor.{Yields};
 ghost use Rattle.reader.specs.Layout.{value_layout, Fills, many};
@@ -20,7 +20,7 @@ pub fn wide(b: u8) -> u32
 
 // Four bytes, lowest first.
 pub fn word(s: &[u8], c: Cursor, short: u8) -> Number
-    ensures { Yields (wordReader short) s.now c result.cursor result.value }
+    ensures { Yields (word_reader short) s.now c result.cursor result.value }
 {
     let b0 = byte(s, c, short);
     let c = b0.cursor;

@@ -12,7 +12,7 @@ use Rattle.semantics.specs.Domain.{first_outside, spares, insert, ascending, mos
 use Rattle.semantics.specs.{Fact.position, Fact.code, Fact.fact, Rounds.After, Contract.domain_of, Contract.FitsInput, Contract.CompletedInput}
 use Rattle.rows.specs.Rows.{Row, RowTrue, Verdict, LinesShown, LastShown, rows, constant_rows, mark_rows}
 use Rattle.semantics.proofs.{DomainFacts.member_true, DomainFacts.member_out, Verdict.verdict, Verdict.fits_whole, FormatsFacts.ladder_read}
-use Rattle.semantics.proofs.Evaluator.{when, both, every, same_list, same_record, assignments, compares, meets_all, finds, takings, answers, callings, joined, by_facts_lem, by_records_lem, by_test, by_values, by_arguments, by_rule, steps, following, drop_known, new_facts, run, Run}
+use Rattle.semantics.proofs.Evaluator.{when, both, every, same_list, same_record, assignments, compares, meets_all, finds, takings, answers, callings, joined, by_facts, by_records, by_test, by_values, by_arguments, by_rule, steps, following, drop_known, new_facts, run, Run}
 use Rattle.semantics.proofs.Evaluation.{both_out, every_out, Done, run_done}
 use Rattle.semantics.proofs.LineCount.{ways, leave, is_empty, is_some, avoids, exactly, line_count}
 use Rattle.semantics.proofs.Existence.{trimmed_exists}
@@ -112,7 +112,7 @@ passed row e = by (ladder row.book row.snapshot row.question) refl e
 
 -- the nine tests and our own, computed
 rows_pass : every passes (rows ++ (constant_rows ++ mark_rows)) ≡ true
-unfolding digits digits_of heap_values member times counted word read_rule_set read_snapshot records read_query ladder first_outside spares insert ascending most_variables domain position code when both every same_list same_record assignments compares meets_all finds takings answers callings joined by_facts_lem by_records_lem by_test by_values by_arguments by_rule steps following drop_known new_facts run flat_map same_bool result test_run test_lines test_last test_read ways leave is_empty is_some avoids exactly passes
+unfolding digits digits_of heap_values member times counted word read_rule_set read_snapshot records read_query ladder first_outside spares insert ascending most_variables domain position code when both every same_list same_record assignments compares meets_all finds takings answers callings joined by_facts by_records by_test by_values by_arguments by_rule steps following drop_known new_facts run flat_map same_bool result test_run test_lines test_last test_read ways leave is_empty is_some avoids exactly passes
 rows_pass = refl
 
 -- Each starred row is true: verdict, facts, rounds, lines, and the last fact that the paper gives.

@@ -83,17 +83,17 @@ pub record Step : Type 0 where
 
 module _ (rule_set : RuleSet) (heap : Heap) (values : List ℕ) where
   -- the steps by one rule: first the arguments, then the bound values, the test, the records, the facts called
-  unfoldable pub by_facts_lem : Rule → List ℕ → List ℕ → List ℕ → List Step
-  by_facts_lem rule arguments is fs =
+  unfoldable pub by_facts : Rule → List ℕ → List ℕ → List ℕ → List Step
+  by_facts rule arguments is fs =
       map (λ (part : ℕ). record { conclusion = fact values rule.head arguments part; called = fs }) (joined (map (λ (i : ℕ). 2 ^ i) is ++ map part_of fs))
 
-  unfoldable pub by_records_lem : List ℕ → Rule → List ℕ → List ℕ → List ℕ → List Step
-  by_records_lem table rule arguments bound is =
-      flat_map (by_facts_lem rule arguments is) (callings values (arguments ++ bound) table rule.calls)
+  unfoldable pub by_records : List ℕ → Rule → List ℕ → List ℕ → List ℕ → List Step
+  by_records table rule arguments bound is =
+      flat_map (by_facts rule arguments is) (callings values (arguments ++ bound) table rule.calls)
 
   unfoldable pub by_test : List ℕ → Rule → List ℕ → List ℕ → Bool → List Step
   by_test table rule arguments bound passed =
-      flat_map (by_records_lem table rule arguments bound) (takings heap (arguments ++ bound) rule.points_to)
+      flat_map (by_records table rule arguments bound) (takings heap (arguments ++ bound) rule.points_to)
 
   unfoldable pub by_values : List ℕ → Rule → List ℕ → List ℕ → List Step
   by_values table rule arguments bound =

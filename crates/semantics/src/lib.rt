@@ -9,7 +9,7 @@ pub const TOO_MANY_FACTS: u64 = 11;
 pub const NOT_PLAIN: u64 = 12;
 
 // The engine's reply. Verdict 1 is fits, 0 does not fit; lines is the certificate's number of lines.
-#[derive(Drop)]
+#[derive(Clone, Copy)]
 pub struct Reply {
     pub refusal: u64,
     pub verdict: u64,
@@ -19,7 +19,7 @@ pub struct Reply {
 }
 
 // The reply to the question whether some part fits. Bit i of the part is for record i; on does not fit and on a refusal the part is 0.
-#[derive(Drop)]
+#[derive(Clone, Copy)]
 pub struct PartReply {
     pub refusal: u64,
     pub verdict: u64,
@@ -30,14 +30,14 @@ pub struct PartReply {
 }
 
 // The reply of the certificate check: taken is 1 or 0.
-#[derive(Drop)]
+#[derive(Clone, Copy)]
 pub struct CheckReply {
     pub refusal: u64,
     pub taken: u64,
 }
 
 // The reply of the quick walk. Verdict 1 is fits; 0 is does not fit, or stands beside a refusal.
-#[derive(Drop)]
+#[derive(Clone, Copy)]
 pub struct WalkReply {
     pub refusal: u64,
     pub verdict: u64,

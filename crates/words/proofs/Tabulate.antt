@@ -51,10 +51,10 @@ tabulate_out (suc n) f a m =
     ⊎_elim (λ e. (0, omega arith, e)) (λ k. let (i, l, e) = tabulate_out n (λ j. f (suc j)) a k in (suc i, omega arith, e)) (Memᴰ.cases_cons m)
 
 -- a list is its entries
-pub tabulate_get_d : {A : Type 0} (xs : List A) (d : A) → tabulate (length xs) (λ (i : ℕ). get_or xs i d) ≡ xs
+pub tabulate-get_or : {A : Type 0} (xs : List A) (d : A) → tabulate (length xs) (λ (i : ℕ). get_or xs i d) ≡ xs
 unfolding tabulate
-tabulate_get_d [] d = refl
-tabulate_get_d {A} (x ∷ xs) d = ap (λ (l : List A). x ∷ l) (tabulate_get_d xs d)
+tabulate-get_or [] d = refl
+tabulate-get_or {A} (x ∷ xs) d = ap (λ (l : List A). x ∷ l) (tabulate-get_or xs d)
 
 -- what is left from an entry on, and past the last
 pub tabulate-drop : {A : Type 0} (n : ℕ) (f : ℕ → A) (k : ℕ) → k < n → drop k (tabulate n f) ≡ f k ∷ drop (k + 1) (tabulate n f)

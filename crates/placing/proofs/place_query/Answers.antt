@@ -6,7 +6,7 @@ use borrow.Author.{Count.below_more}
 use lib.{ListN.length, ListN.get_or, ListN.take, ListN.length-set, Seq.get_or-set_same, Seq.get_or-set_other}
 use Rattle.semantics.specs.Fact.{position}
 use Rattle.semantics.proofs.Coding.{get_d_in, zeros_at}
-use Rattle.words.proofs.Tabulate.{tabulate-map, tabulate_same, tabulate_get_d}
+use Rattle.words.proofs.Tabulate.{tabulate-map, tabulate_same, tabulate-get_or}
 use Rattle.placing.proofs.Positions.{placeable_one}
 use Rattle.placing.proofs.place_query.Goals as goal
 
@@ -35,6 +35,6 @@ returns c =
     record {
       is = tabulate_same n (λ (j : ℕ). get_or l.positions (0 + j) 0) (λ (j : ℕ). position (take s.n s.domain.now) (get_or s.values.now j 0))
           (λ j b. let e : 0 + j ≡ j = omega arith in rw e (l.invariant.2 j (omega (arith, b))))
-          ∙ sym (tabulate-map (position (take s.n s.domain.now)) n (λ (j : ℕ). get_or s.values.now j 0)) ∙ ap (map (position (take s.n s.domain.now))) (tabulate_get_d s.values.now 0);
+          ∙ sym (tabulate-map (position (take s.n s.domain.now)) n (λ (j : ℕ). get_or s.values.now j 0)) ∙ ap (map (position (take s.n s.domain.now))) (tabulate-get_or s.values.now 0);
       unused = λ j h. l.invariant.3 j (omega (arith, h));
     }

@@ -2,7 +2,7 @@
 use mathlib.Core.Path.{◌≡◌, ◌∙◌}
 use native.Mathlib.Omega.{arith}
 use lib.ListN.{length}
-use Rattle.words.proofs.Tabulate.{tabulate_get_d}
+use Rattle.words.proofs.Tabulate.{tabulate-get_or}
 use Rattle.walk.proofs.Arguments.{written_none, written_more, written_take, written_counted}
 use Rattle.walk.proofs.arguments_of.Goals as goal
 
@@ -17,4 +17,4 @@ pub returns : goal.returns
 returns c =
     let given = c.args.given.now in
     let all : c.loop-i.i ≡ length given = omega arith in
-    (rw all at (written_take c.loop-i.invariant.1 (omega (arith, c.requires))) ∙ tabulate_get_d given 0, written_counted c.loop-i.invariant.1)
+    (rw all at (written_take c.loop-i.invariant.1 (omega (arith, c.requires))) ∙ tabulate-get_or given 0, written_counted c.loop-i.invariant.1)
