@@ -10,5 +10,5 @@ cc -std=c11 -Wall -Wextra -Werror -O1 -g -I../include caller.c -L"$desk" -L"$sha
 ../target/compare/caller --stack hostile/*.bin
 # The quick ones: under the checker all is some fifty times slower.
 $checked ../target/compare/caller hostile/{unequal-only,equality-chains,always-true-16,mutual-rotation,plain-tree-of-three,plain-tree-by-constants,plain-test-pairs,not-plain-at-the-end,plain-test-never-met}.bin
-$checked ../target/compare/release/compare --no-program --exact --thin 250
+$checked ../target/compare/release/compare --no-program --exact --thin 300
 echo "no memory errors"
