@@ -2,6 +2,7 @@ pub mod Exchange
 pub mod GivenValues
 pub mod HeapInBlock
 pub mod InputInBlock
+pub mod KindTests
 pub mod ReadyBlocks
 pub mod RuleAs
 pub mod RuleInBlock

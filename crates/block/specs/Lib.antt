@@ -1,3 +1,4 @@
+pub mod Exchanged
+pub mod Kinds
 pub mod Layout
 pub mod Ready
-pub mod Exchanged

@@ -5,20 +5,13 @@ ghost use Rattle.block.specs.Layout.{record_count, record_place, record_address,
 
 use super::{CONSTANTS, FIRST_GIVEN, HeapBlock, PREDICATE, PlacedHeap, QueryBlock, VALUES};
 
-// A count as an index.
-fn wide(x: u32) -> usize
-    ensures { (result ≡ x) × (result < 4294967296) }
-{
-    x as usize
-}
-
 // ---- the heap
 
 // How many records there are.
 pub fn record_count(heap: &HeapBlock) -> usize
     ensures { (result ≡ record_count heap.now) × (result < 4294967296) }
 {
-    wide(heap[0])
+    heap[0] as usize
 }
 
 pub fn record_address(heap: &HeapBlock, k: usize) -> u32
@@ -33,7 +26,7 @@ pub fn record_size(heap: &HeapBlock, k: usize) -> usize
     requires { k < 16 }
     ensures { (result ≡ record_size heap.now k) × (result < 4294967296) }
 {
-    wide(heap[1 + 6 * k + 1])
+    heap[1 + 6 * k + 1] as usize
 }
 
 pub fn record_field(heap: &HeapBlock, k: usize, j: usize) -> u32
@@ -56,7 +49,7 @@ pub fn query_predicate(query: &QueryBlock) -> u8
 pub fn constant_count(query: &QueryBlock) -> usize
     ensures { (result ≡ constant_count query.now) × (result < 4294967296) }
 {
-    wide(query[CONSTANTS])
+    query[CONSTANTS] as usize
 }
 
 // The fixed value of a number: nil of 0, and of one past the constants, so that nobody needs to show that no rule has it.
@@ -78,8 +71,8 @@ pub fn query_values(query: &QueryBlock) -> &[u32]
     requires { (constant_count query.now ≤ 8) × (query_count query.now ≤ 4) }
     ensures { result.now ≡ query_values query.now }
 {
-    let first = FIRST_GIVEN + wide(query[CONSTANTS]);
-    let count = wide(query[VALUES]);
+    let first = FIRST_GIVEN + query[CONSTANTS] as usize;
+    let count = query[VALUES] as usize;
     let all = &query[..];
     &all[first..first + count]
 }
@@ -89,7 +82,7 @@ pub fn given_values(query: &QueryBlock) -> &[u32]
     requires { (constant_count query.now ≤ 8) × (query_count query.now ≤ 4) }
     ensures { result.now ≡ constants_in query.now ++ query_values query.now }
 {
-    let count = wide(query[CONSTANTS]) + wide(query[VALUES]);
+    let count = query[CONSTANTS] as usize + query[VALUES] as usize;
     let all = &query[..];
     &all[FIRST_GIVEN..FIRST_GIVEN + count]
 }

@@ -5,7 +5,7 @@ use native.Mathlib.Omega.{arith}
 use lib.ListN.{get_or}
 use Rattle.semantics.specs.Formats.{term}
 use Rattle.block.specs.Layout.{term_as, fixed_in, constants_in}
-use Rattle.reader.specs.{Cursor.ranged_byte, Cursor.Within, Layout.Any}
+use Rattle.reader.specs.{Outcome.ranged_byte, Outcome.Within, Layout.Any}
 use Rattle.book.specs.BookLayout.{count_layout, term_layout, pure_layout, atom_layout, call_layout, rule_layout}
 use Rattle.reader.proofs.Section.{Local, single_local, many_local, entries_same}
 

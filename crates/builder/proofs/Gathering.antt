@@ -6,7 +6,7 @@ use native.Mathlib.{Omega.arith, Nat.eq-or-lt_of_le}
 use lib.{ListN.length, ListN.get_or, ListN.set, ListN.length-set, Seq.get_or-set_same, Seq.get_or-set_other}
 use Rattle.semantics.specs.Certificate.{fact_at, positions_at, rule_at}
 use Rattle.table.specs.Layered.{code_at}
-use Rattle.builder.specs.{Space.mark_at, Space.positions_in, Space.names_in, Steps.putting, Steps.Lined, Steps.Gathered}
+use Rattle.builder.specs.{Space.mark_at, Space.positions_in, Space.names_in, Steps.putting, Steps.Lined}
 
 -- The lines of the places below i are written.
 pub record GatheredTo (table : List ℕ) (at : ℕ) (before : List ℕ) (i : ℕ) (after : List ℕ) : Type 0 where
@@ -42,14 +42,6 @@ module _ (space : List ℕ) (line fact positions names : ℕ) (low : 1 ≤ line)
   put_names = get_or-set_same (set (set space (3 * line - 3) fact) (3 * line - 2) positions) (3 * line - 1) names 0 (simp length-set (omega arith))
 
 module _ {table : List ℕ} {at : ℕ} {before : List ℕ} (ready : Lined at before) where
-  pub gathered_all : {i : ℕ} {after : List ℕ} → at < i → GatheredTo table at before i after → Gathered table at before after
-  gathered_all l r = record {
-    long = r.long;
-    facts = λ j h. r.facts j (omega arith);
-    positions = λ j h. r.positions j (omega arith);
-    names = λ j h. r.names j (omega arith);
-  }
-
   module _ {i : ℕ} {after : List ℕ} (upto : i ≤ at) (r : GatheredTo table at before i after) where
     pub gathered_free : mark_at after i ≡ 0 → GatheredTo table at before (i + 1) after
     gathered_free z =

@@ -1,20 +1,13 @@
 -- Marks and line numbers by place, as the code indexes them.
 use mathlib.Core.{List.List, List.[], List.◌∷◌, List.map, Logic.◌≢◌, Path.◌≡◌, Path.refl, Path.ap}
-use Prim.Native.Nat.{ℕ, zero, suc, ◌+◌, ◌-◌, ◌*◌, ◌%◌, ◌<◌}
+use Prim.Native.Nat.{ℕ, zero, suc, ◌+◌, ◌-◌, ◌*◌, ◌%◌}
 use native.Mathlib.Omega.{arith}
-use lib.ListN.{get_or, set}
+use lib.ListN.{get_or}
 use Rattle.semantics.specs.Lists.{digits, digits_of}
 use Rattle.ground.specs.Grounded.{called_in, called_at}
-use Rattle.builder.specs.Steps.{marking, number_at}
+use Rattle.builder.specs.Steps.{number_at}
 
-pub marking_at : (space : List ℕ) (c : ℕ) → 0 < c → set space (3 * c - 3) 1 ≡ marking space c
-marking_at space zero h = absurd (omega arith)
-marking_at space (suc j) h = let e : 3 * suc j - 3 ≡ 3 * j = omega arith in ap (λ (i : ℕ). set space i 1) e
-
-pub marking_none : (space : List ℕ) (c : ℕ) → c ≡ 0 → space ≡ marking space c
-marking_none space zero h = refl
-marking_none space (suc j) h = absurd (omega arith)
-
+-- the line number of a place, by the place's own number
 pub number_at_lem : (space : List ℕ) (c : ℕ) → c ≢ 0 → get_or space (3 * c - 3) 0 % 65536 ≡ number_at space c
 number_at_lem space zero z = absurd (z refl)
 number_at_lem space (suc j) z = let e : 3 * suc j - 3 ≡ 3 * j = omega arith in ap (λ (i : ℕ). get_or space i 0 % 65536) e

@@ -8,7 +8,7 @@ use Rattle.semantics.specs.Lists.{digits}
 use Rattle.semantics.proofs.Digits.{digits_of-length}
 use Rattle.ground.specs.Grounded.{called_in, called_at}
 use Rattle.builder.specs.Space.{mark_at, positions_in, names_in, count, line_of, renamed}
-use Rattle.builder.specs.Steps.{number_at, Numberable, LinesNamed}
+use Rattle.builder.specs.Steps.{number_at, Numberable}
 use Rattle.builder.proofs.Counting.{count_marked, count_free, count_below}
 
 -- The places below i are numbered.
@@ -43,18 +43,6 @@ module _ {at : ℕ} {before : List ℕ} (ready : Numberable at before) where
     marks_rest = λ j h. refl;
     names_rest = λ j h. refl;
   }
-
-  pub numbered_all : {i : ℕ} {after : List ℕ} {lines : ℕ} → at < i → NumberedTo at before i after lines → LinesNamed at before after lines
-  numbered_all {i} l r =
-      let e : i ≡ suc at = omega (arith, r.upto) in
-      record {
-        counted = r.counted ∙ ap (count before) e;
-        long = r.long;
-        free = λ j h. r.free j (omega arith);
-        marked = λ j h. r.marked j (omega arith);
-        positions = λ j h. r.positions j;
-        names = λ j h. r.names j (omega arith);
-      }
 
   module _ {i : ℕ} {after : List ℕ} {lines : ℕ} (upto : i ≤ at) (r : NumberedTo at before i after lines) where
     -- what the numbers passed say of the called places of place i
@@ -91,15 +79,6 @@ module _ {at : ℕ} {before : List ℕ} (ready : Numberable at before) where
 
     abbrev numbered : List ℕ
     numbered = set after (3 * i) (lines + 1)
-
-    -- the called places of place i lie inside
-    pub called_inside : mark_at after i ≢ 0 → (k : ℕ) → k < 3 → 3 * called_at (names_in numbered i) k ≤ length numbered
-    called_inside z k l =
-        let full : mark_at before i ≢ 0 = λ e. z (r.marks_rest i (omega arith) ∙ e) in
-        let same : names_in numbered i ≡ names_in before i = get_or-set_other after (3 * i) (3 * i + 2) (lines + 1) 0 (λ e. omega arith) ∙ r.names_rest i (omega arith) in
-        let e : called_at (names_in numbered i) k ≡ called_at (names_in before i) k = ap (λ (w : ℕ). called_at w k) same in
-        let long : length numbered ≡ length before = length-set after (3 * i) (lines + 1) ∙ r.long in
-        ⊎_elim (λ (q : called_at (names_in before i) k ≡ 0). omega arith) (λ w. omega (arith, w.1, w.3, ready.inside)) (ready.planned.calls i upto full k l)
 
     pub numbered_more : mark_at after i ≢ 0 → (word : ℕ)
         → word ≡ names_in numbered i % 256 + 256 * digits 65536 (map (number_at numbered) (called_in (names_in numbered i)))

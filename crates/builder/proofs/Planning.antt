@@ -2,14 +2,27 @@
 -- them, and every marked place but the query's is called by one that was passed.
 use mathlib.Core.{List.List, Logic.◌⊎◌, Logic.inl, Logic.inr, Logic.⊎_elim, Logic.◌≢◌, Path.◌≡◌, Path.refl, Path.sym, Path.ap, Path.◌∙◌}
 use Prim.Native.Nat.{ℕ, zero, suc, ◌+◌, ◌*◌, ◌≤◌, ◌<◌}
-use native.Mathlib.{Omega.arith, Decide.ℕ_discrete, Nat.eq-or-lt_of_le}
+use native.Mathlib.{Numerals.add-one, Omega.arith, Decide.ℕ_discrete, Nat.eq-or-lt_of_le}
 use lib.{ListN.length, ListN.get_or, ListN.set, ListN.length-set, Seq.get_or-set_same, Seq.get_or-set_other}
 use Rattle.ground.specs.Grounded.{called_at}
 use Rattle.builder.specs.{Space.mark_at, Space.positions_in, Space.names_in, Steps.marking, Plan.GroundedAt, Plan.visiting, Plan.Visited, Plan.Plans}
 
--- three stores of marks, one after the other
-pub three_marks : (start : List ℕ) {a b c : List ℕ} (i j k : ℕ) → a ≡ marking start i → b ≡ marking a j → c ≡ marking b k → c ≡ marking (marking (marking start i) j) k
-three_marks start i j k p q r = r ∙ ap (λ (s : List ℕ). marking s k) (q ∙ ap (λ (s : List ℕ). marking s j) p)
+-- The first k called places of a third word marked.
+unfoldable pub marked_upto : List ℕ → ℕ → ℕ → List ℕ
+marked_upto space names zero = space
+marked_upto space names (suc k) = marking (marked_upto space names k) (called_at names k)
+
+pub marked_none : (space : List ℕ) (names : ℕ) → space ≡ marked_upto space names 0
+unfolding marked_upto
+marked_none space names = refl
+
+pub marked_more : (space : List ℕ) (names k : ℕ) {before after : List ℕ} → before ≡ marked_upto space names k → after ≡ marking before (called_at names k) → after ≡ marked_upto space names (k + 1)
+unfolding marked_upto
+marked_more space names k e q = rw add-one (q ∙ ap (λ (s : List ℕ). marking s (called_at names k)) e)
+
+pub marked_three : (space : List ℕ) (i positions names : ℕ) → marked_upto (set (set space (3 * i + 1) positions) (3 * i + 2) names) names 3 ≡ visiting space i positions names
+unfolding marked_upto
+marked_three space i positions names = refl
 
 pub written_long : (space : List ℕ) (i x y : ℕ) → length (set (set space (3 * i + 1) x) (3 * i + 2) y) ≡ length space
 written_long space i x y = simp length-set
@@ -132,15 +145,6 @@ pub record PlannedFrom (rules records : List ℕ) (n : ℕ) (table : List ℕ) (
   pub grounds : (j : ℕ) → i ≤ j → j ≤ at → mark_at space j ≢ 0 → GroundedAt rules records n table j (positions_in space j) (names_in space j)
 
 module _ {rules records : List ℕ} {n : ℕ} {table : List ℕ} {at : ℕ} where
-  pub planned_start : (space : List ℕ) → ((i : ℕ) → i < at → mark_at space i ≡ 0) → 3 * at < length space → PlannedFrom rules records n table at (at + 1) (set space (3 * at) 1)
-  planned_start space zeros l = record {
-    upto = omega arith;
-    root = λ e. omega (arith, get_or-set_same space (3 * at) 1 0 l);
-    calls = λ j h k. absurd (omega arith);
-    used = λ j h z. absurd (z (get_or-set_other space (3 * at) (3 * j) 1 0 (λ e. omega arith) ∙ zeros j h));
-    grounds = λ j h k. absurd (omega arith);
-  }
-
   pub planned_all : {space after : List ℕ} → length after ≡ length space → PlannedFrom rules records n table at 0 after → Plans rules records n table at space after
   planned_all l p = record {
     long = l;

@@ -17,22 +17,12 @@ const MANY: usize = 512;
 fn heavy(rules: &RuleBlock, records: &PlacedHeap, n: usize, at: usize) -> bool
     requires { Represents rules.now records.now n }
 {
-    if at < SOME {
-        return false;
-    }
-    let count = block::rule_count(rules);
-    let mut r = 0;
-    while r < count {
-        if 1 < block::call_count(rules, block::rule_place(r)) {
-            return true;
-        }
-        r += 1;
-    }
-    false
+    SOME <= at
+        && (0..block::rule_count(rules)).any(|r| 1 < block::call_count(rules, block::rule_place(r)))
 }
 
-// The plan without a memory.
-fn light(
+// The plan with a memory of that many words, three to a slot.
+fn with_memory<const WORDS: usize>(
     rules: &RuleBlock,
     records: &PlacedHeap,
     n: usize,
@@ -40,42 +30,11 @@ fn light(
     at: usize,
     space: &mut [u64],
 )
-    requires { Buildable rules.now records.now n table.now at space.old × ((i : ℕ) → i < at → mark_at space.old i ≡ 0) }
+    requires lent { Buildable rules.now records.now n table.now at space.old × ((i : ℕ) → i < at → mark_at space.old i ≡ 0) }
+    requires few { WORDS < 65536 }
     ensures { Plans rules.now records.now n table.now at space.old space.new }
 {
-    let mut none = [0u64; 1];
-    plan(rules, records, n, table, at, space, &mut none);
-}
-
-// The plan with a memory of 127 slots.
-fn remembering(
-    rules: &RuleBlock,
-    records: &PlacedHeap,
-    n: usize,
-    table: &[u64],
-    at: usize,
-    space: &mut [u64],
-)
-    requires { Buildable rules.now records.now n table.now at space.old × ((i : ℕ) → i < at → mark_at space.old i ≡ 0) }
-    ensures { Plans rules.now records.now n table.now at space.old space.new }
-{
-    let mut memory = [0u64; 381];
-    plan(rules, records, n, table, at, space, &mut memory);
-}
-
-// The plan with a memory of 337 slots.
-fn remembering_more(
-    rules: &RuleBlock,
-    records: &PlacedHeap,
-    n: usize,
-    table: &[u64],
-    at: usize,
-    space: &mut [u64],
-)
-    requires { Buildable rules.now records.now n table.now at space.old × ((i : ℕ) → i < at → mark_at space.old i ≡ 0) }
-    ensures { Plans rules.now records.now n table.now at space.old space.new }
-{
-    let mut memory = [0u64; 1011];
+    let mut memory = [0u64; WORDS];
     plan(rules, records, n, table, at, space, &mut memory);
 }
 
@@ -91,13 +50,11 @@ pub fn prepare(
     requires { Buildable rules.now records.now n table.now at space.old × ((i : ℕ) → i < at → mark_at space.old i ≡ 0) }
     ensures { Plans rules.now records.now n table.now at space.old space.new }
 {
-    if heavy(rules, records, n, at) {
-        if at < MANY {
-            remembering(rules, records, n, table, at, space);
-        } else {
-            remembering_more(rules, records, n, table, at, space);
-        }
+    if !heavy(rules, records, n, at) {
+        with_memory::<1>(rules, records, n, table, at, space);
+    } else if at < MANY {
+        with_memory::<381>(rules, records, n, table, at, space);
     } else {
-        light(rules, records, n, table, at, space);
+        with_memory::<1011>(rules, records, n, table, at, space);
     }
 }

@@ -1,9 +1,17 @@
+use sections::Sections;
+
 // The quick walk, and the engine beside it.
-pub(crate) fn walked(book: &[u8], snapshot: &[u8], question: &[u8]) -> [u64; 9] {
+pub(crate) fn walked(asked: Sections<'_>) -> [u64; 9] {
     let mut table = [0u64; 1024];
     let mut space = [0u64; 3072];
-    let quick = walk::walk(book, snapshot, question);
-    let whole = engine::decide(book, snapshot, question, &mut table, &mut space);
+    let quick = walk::walk(asked.book, asked.snapshot, asked.question);
+    let whole = engine::decide(
+        asked.book,
+        asked.snapshot,
+        asked.question,
+        &mut table,
+        &mut space,
+    );
     [
         quick.refusal,
         quick.verdict,

@@ -2,13 +2,12 @@
 use mathlib.Core.{Path.◌≡◌, Path.sym, Path.ap₂, Path.◌∙◌, List.List, List.[], List.◌∷◌, Logic.◌↔◌}
 use Prim.Native.Nat.{ℕ, ◌+◌, ◌/◌, ◌%◌, ◌^◌, ◌≤◌, ◌<◌}
 use native.Mathlib.{Omega.arith, Numerals.add-one, Decide.dec_lt}
-use lib.{ListN.take, ListN.drop, ListN.drop_of_length-le, Seq.drop-cons, Dec.eqb}
-use Rattle.semantics.specs.{Certificate.fact_at, Certificate.positions_at, Fact.code, Fact.part_of, Heap.Record, Heap.Disjoint, RuleSet.Call, Tree.values_of, Tree.asked}
-use Rattle.words.specs.{Entries.tabulate, Told.Told}
-use Rattle.block.specs.Layout.{atom_in, call_in, rule_in, atom_count, call_count, atom_place, call_place, head_in, head_arity, record_count}
+use lib.{ListN.take, ListN.drop, ListN.drop_of_length-le, Seq.drop-cons}
+use Rattle.semantics.specs.{Certificate.fact_at, Certificate.positions_at, Fact.code, Fact.part_of, Heap.Record, Heap.Disjoint, Tree.asked}
+use Rattle.words.specs.{Entries.tabulate}
+use Rattle.block.specs.Layout.{atom_in, call_in, rule_in, atom_count, call_count, atom_place, call_place, head_in, head_arity}
 use Rattle.words.proofs.Tabulate.{tabulate-length, tabulate_at}
-use Rattle.certificate.specs.Line.{given_by, FirstRecord, FoundRecord, CallsLine, CallsJoin, AtomsJoin}
-use Rattle.words.proofs.Answers.{told_equal}
+use Rattle.certificate.specs.Line.{given_by, FirstRecord, CallsLine, CallsJoin, AtomsJoin}
 
 -- ---- lists given by their entries, from an entry on
 
@@ -21,14 +20,6 @@ drop_end : {A : Type 0} (m : ℕ) (f : ℕ → A) (i : ℕ) → m ≤ i → drop
 drop_end m f i h = drop_of_length-le (tabulate m f) {i = i} (omega (arith, tabulate-length m f))
 
 -- ---- calls
-
--- a line's fact against the call's, for the line's own subheap
-pub line_told : (words σ : List ℕ) (call : Call) (k line : ℕ) {f part g : ℕ} → 1 ≤ line → line < k → f ≡ fact_at words line → part ≡ part_of f
-    → g ≡ code call.predicate (values_of σ call.arguments) part → Told (eqb f g) (CallsLine words k σ call line)
-line_told words σ call k line {f} {part} {g} low high e p q =
-    told_equal f g
-    (λ (same : f ≡ g). record { some = low; earlier = high; is_call = cc })
-    (λ c. let i = c.is_call in cc)
 
 -- the join of a rule's calls from number c on
 abbrev pub CallsFrom : List ℕ → ℕ → List ℕ → ℕ → List ℕ → ℕ → ℕ → ℕ → ℕ → Type 0
@@ -57,15 +48,6 @@ module _ (rules : List ℕ) (rule c : ℕ) {words : List ℕ} {k : ℕ} {σ : Li
       last (CallsJoin.done e u) = (e, u)
 
 -- ---- points-to atoms
-
--- what the search for a record found
-pub found_first : {records : List ℕ} {wanted : Record} {r : ℕ} → FoundRecord records wanted r → r < record_count records → FirstRecord records wanted r
-found_first (FoundRecord.found f) h = f
-found_first (FoundRecord.none e n) h = absurd (omega arith)
-
-pub found_none : {records : List ℕ} {wanted : Record} {r : ℕ} → FoundRecord records wanted r → record_count records ≤ r → (i : ℕ) → ¬ FirstRecord records wanted i
-found_none (FoundRecord.found f) h i p = omega (arith, f.below)
-found_none (FoundRecord.none e n) h i p = n i p.below p.is
 
 first_same : (records : List ℕ) (wanted : Record) (i j : ℕ) → FirstRecord records wanted i → FirstRecord records wanted j → i ≡ j
 first_same records wanted i j p q = elim (dec_lt i j) [

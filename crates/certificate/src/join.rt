@@ -21,9 +21,10 @@ fn argument(rules: &RuleBlock, rule: usize, c: usize, word: u64, j: usize) -> u8
     ensures { result ≡ get_or (values_of (given_by word) (call_in rules.now (call_place rule c)).arguments) j 0 }
 {
     if j < call_arity(rules, rule, c) {
-        return position(word, call_term(rules, rule, c, j));
+        position(word, call_term(rules, rule, c, j))
+    } else {
+        0
     }
-    0
 }
 
 // The fact of call c, for a subheap.
@@ -53,10 +54,7 @@ fn calls_line(
     requires { Formed rules.now rule × (c < call_count rules.now rule) × (3 * k ≤ length words.now) }
     ensures { Told result (CallsLine words.now k (given_by word) (call_in rules.now (call_place rule c)) line) }
 {
-    if line == 0 {
-        return false;
-    }
-    if k <= line {
+    if line == 0 || k <= line {
         return false;
     }
     let fact = fact_at(words, line);
@@ -73,24 +71,19 @@ fn calls_join(rules: &RuleBlock, rule: usize, words: &[u64], k: usize, used: u16
     let count = call_count(rules, rule);
     let mut lines = rule_at(words, k) / 256;
     let mut sum = used;
-    let mut c = 0;
-    while c < count {
+    for c in 0..count {
         let line = (lines % 65536) as usize;
-        if calls_line(rules, rule, c, word, words, k, line) {} else {
+        if !calls_line(rules, rule, c, word, words, k, line) {
             return false;
         }
         let part = part_of(fact_at(words, line));
         if shares(part, sum) {
             return false;
         }
-        sum = part + sum;
-        lines = lines / 65536;
-        c += 1;
+        sum += part;
+        lines /= 65536;
     }
-    if lines != 0 {
-        return false;
-    }
-    sum == part_of(fact_at(words, k))
+    lines == 0 && sum == part_of(fact_at(words, k))
 }
 
 // Whether the records of the rule's points-to atoms and the subheaps that line k calls make up the subheap of its fact.
@@ -101,18 +94,15 @@ pub fn joined(rules: &RuleBlock, rule: usize, records: &PlacedHeap, words: &[u64
     let word = positions_at(words, k);
     let count = atom_count(rules, rule);
     let mut used: u16 = 0;
-    let mut g = 0;
-    while g < count {
-        let i = find_record(rules, rule, g, word, records);
-        if record_count(records) <= i {
+    for g in 0..count {
+        let Some(i) = find_record(rules, rule, g, word, records) else {
             return false;
-        }
+        };
         let here = bit(i);
         if shares(here, used) {
             return false;
         }
-        used = here + used;
-        g += 1;
+        used += here;
     }
     calls_join(rules, rule, words, k, used)
 }

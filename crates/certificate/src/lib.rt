@@ -16,7 +16,7 @@ use block::{PlacedHeap, RuleBlock, rule_count, rule_place, variable_count};
 use join::joined;
 use line::{fact_at, positions_at, positions_fit, rule_at};
 use rule::{head_fact, pures_hold};
-use words::{part_of, rule_of, wide};
+use words::{part_of, rule_of};
 
 // Whether line k is a ground instance of a rule.
 fn instance_holds(
@@ -32,16 +32,10 @@ fn instance_holds(
 {
     let fact = fact_at(words, k);
     let word = positions_at(words, k);
-    if positions_fit(word, variable_count(rules, rule), n) {} else {
-        return false;
-    }
-    if fact != head_fact(rules, rule, word, part_of(fact)) {
-        return false;
-    }
-    if pures_hold(rules, rule, word) {} else {
-        return false;
-    }
-    joined(rules, rule, records, words, k)
+    positions_fit(word, variable_count(rules, rule), n)
+        && fact == head_fact(rules, rule, word, part_of(fact))
+        && pures_hold(rules, rule, word)
+        && joined(rules, rule, records, words, k)
 }
 
 // Whether line k holds.
@@ -49,11 +43,8 @@ fn line_holds(rules: &RuleBlock, records: &PlacedHeap, n: usize, words: &[u64], 
     requires { Ready rules.now records.now n × (1 ≤ k) × (3 * k ≤ length words.now) }
     ensures { Told result (LineIn rules.now records.now n words.now k) }
 {
-    let number = wide(rule_of(rule_at(words, k)));
-    if rule_count(rules) <= number {
-        return false;
-    }
-    instance_holds(rules, rule_place(number), records, n, words, k)
+    let number = usize::from(rule_of(rule_at(words, k)));
+    number < rule_count(rules) && instance_holds(rules, rule_place(number), records, n, words, k)
 }
 
 // Whether the words meet the conditions for lines, and the last line has the fact `last`.
@@ -62,23 +53,14 @@ pub fn check(rules: &RuleBlock, records: &PlacedHeap, n: usize, last: u64, words
     ensures { Judges rules.now records.now n last words.now result }
 {
     let count = words.len() / 3;
-    if count == 0 {
-        return false;
-    }
-    if 65535 < count {
-        return false;
-    }
-    if words.len() % 3 != 0 {
+    if count == 0 || 65535 < count || words.len() % 3 != 0 {
         return false;
     }
     if fact_at(words, count) != last {
         return false;
     }
-    let mut k = 1;
-    while k <= count {
-        if line_holds(rules, records, n, words, k) {
-            k += 1;
-        } else {
+    for k in 1..=count {
+        if !line_holds(rules, records, n, words, k) {
             return false;
         }
     }

@@ -34,13 +34,11 @@ pub fn positions_fit(word: u64, variables: usize, n: usize) -> bool
     ensures { Told result (Positions n variables word) }
 {
     let mut rest = word;
-    let mut left = variables;
-    while 0 < left {
+    for _ in 0..variables {
         if n <= (rest % 256) as usize {
             return false;
         }
-        rest = rest / 256;
-        left -= 1;
+        rest /= 256;
     }
     rest == 0
 }

@@ -9,19 +9,20 @@ ghost use Rattle.block.specs.Ready.{Formed};
 ghost use Rattle.certificate.specs.Line.{given_by, PuresHold, FoundRecord};
 
 use block::{
-    PlacedHeap, RuleBlock, atom_address, atom_fields, atom_size, head, head_arity, pure_count,
-    pure_kind, pure_left, pure_right, record_address, record_count, record_fields, record_size,
+    Kind, PlacedHeap, RuleBlock, atom_address, atom_fields, atom_size, head, head_arity, kind_of,
+    pure_count, pure_left, pure_right, record_address, record_count, record_fields, record_size,
 };
-use words::{pack, variable_of, wide};
+use words::{pack, variable_of};
 
 // The position of a variable; 0 of one that no word has a place for.
 fn variable(word: u64, v: u8) -> u8
     ensures { result ≡ get_or (given_by word) v 0 }
 {
     if v < 8 {
-        return variable_of(word, wide(v));
+        variable_of(word, usize::from(v))
+    } else {
+        0
     }
-    0
 }
 
 // The position of a term: that of its variable, or the fixed one itself.
@@ -29,9 +30,10 @@ pub fn position(word: u64, term: u8) -> u8
     ensures { result ≡ value_of (given_by word) (term_in term) }
 {
     if term < 128 {
-        return variable(word, term);
+        variable(word, term)
+    } else {
+        term - 128
     }
-    term - 128
 }
 
 // The position of argument j of the head, of so many; 0 past the last.
@@ -39,10 +41,7 @@ fn head_argument(count: usize, word: u64, j: usize) -> u8
     requires { count ≤ 4 }
     ensures { result ≡ get_or (take count (given_by word)) j 0 }
 {
-    if j < count {
-        return variable_of(word, j);
-    }
-    0
+    if j < count { variable_of(word, j) } else { 0 }
 }
 
 // The fact of the head, for a subheap.
@@ -67,10 +66,11 @@ fn pure_holds(rules: &RuleBlock, rule: usize, k: usize, word: u64) -> bool
 {
     let left = position(word, pure_left(rules, rule, k));
     let right = position(word, pure_right(rules, rule, k));
-    if pure_kind(rules, rule, k) == 0 {
-        return left == right;
+    if kind_of(rules, rule, k) == Kind::Equal {
+        left == right
+    } else {
+        left != right
     }
-    left != right
 }
 
 // Whether all pure conditions hold.
@@ -78,16 +78,7 @@ pub fn pures_hold(rules: &RuleBlock, rule: usize, word: u64) -> bool
     requires { Formed rules.now rule }
     ensures { Told result (PuresHold rules.now rule word) }
 {
-    let count = pure_count(rules, rule);
-    let mut k = 0;
-    while k < count {
-        if pure_holds(rules, rule, k, word) {
-            k += 1;
-        } else {
-            return false;
-        }
-    }
-    true
+    (0..pure_count(rules, rule)).all(|k| pure_holds(rules, rule, k, word))
 }
 
 // Whether so many fields of a record, from a place on, are the positions of so many terms.
@@ -102,15 +93,7 @@ fn fields_match(
     requires { (terms + count ≤ rule_set_size) × (fields + count ≤ heap_size) }
     ensures { Told result (entries records.now fields count ≡ values_of (given_by word) (map term_in (entries rules.now terms count))) }
 {
-    let mut j = 0;
-    while j < count {
-        if records[fields + j] == position(word, rules[terms + j]) {
-            j += 1;
-        } else {
-            return false;
-        }
-    }
-    true
+    (0..count).all(|j| records[fields + j] == position(word, rules[terms + j]))
 }
 
 // Whether record i is the one that points-to atom g asks for.
@@ -142,24 +125,16 @@ fn record_matches(
     )
 }
 
-// The number of the record that points-to atom g takes, or the number of records where there is none.
+// The number of the record that points-to atom g takes.
 pub fn find_record(
     rules: &RuleBlock,
     rule: usize,
     g: usize,
     word: u64,
     records: &PlacedHeap,
-) -> usize
+) -> Option<usize>
     requires { Formed rules.now rule × (g < atom_count rules.now rule) × (record_count records.now ≤ 16) }
     ensures { FoundRecord records.now (asked (given_by word) (atom_in rules.now (atom_place rule g))) result }
 {
-    let count = record_count(records);
-    let mut i = 0;
-    while i < count {
-        if record_matches(rules, rule, g, word, records, i) {
-            return i;
-        }
-        i += 1;
-    }
-    count
+    (0..record_count(records)).find(|i| record_matches(rules, rule, g, word, records, *i))
 }

@@ -3,7 +3,7 @@ use mathlib.Core.List.Memᴰ
 use mathlib.Core.{Path.◌≡◌, Path.refl, Path.sym, Path.ap, Path.ap₂, Path.◌∙◌, Logic.◌↔◌, List.List, List.[], List.◌∷◌}
 use Prim.Native.Nat.{ℕ, zero, suc, ◌*◌, ◌^◌, ◌/◌, ◌<◌}
 use native.Mathlib.{Omega.arith, Nat.pow-suc}
-use lib.{ListN.length, ListN.take, ListN.drop, ListN.length-append, Seq.take_all, Seq.take_at, Seq.drop_at}
+use lib.{ListN.length, ListN.take, ListN.drop, ListN.length-append, Seq.take_at, Seq.drop_at}
 use Rattle.semantics.specs.{Lists.◌among◌, Lists.digits, Lists.digits_of, Formats.Input, Contract.CertificateInput, Contract.DeskTakes, Contract.bytes_of}
 use Rattle.semantics.proofs.Digits.{digits_of-length}
 use Rattle.desk.specs.Words.{Loaded}
@@ -38,16 +38,13 @@ bytes_decide (x ∷ xs) (y ∷ ys) hx hy e =
 nothing : (i : Input) → CertificateInput i [] → ⊥
 nothing i t = omega (arith, t.some, t.whole)
 
-pub desk_takes : (i : Input) {bytes words : List ℕ} {n : ℕ} → Loaded bytes words n → DeskTakes i bytes ↔ CertificateInput i (take n words)
-desk_takes i {bytes} {words} {n} (Loaded.loaded h long most) = (
-  λ d. rw (bytes_decide (take n words) d.words h.small d.small (same ∙ d.are_bytes)) d.taken,
-  λ t. record { words = take n words; small = h.small; are_bytes = sym same; most = most; taken = t },
+pub desk_takes : (i : Input) {bytes words : List ℕ} → Loaded bytes words → DeskTakes i bytes ↔ CertificateInput i words
+desk_takes i {bytes} {words} (Loaded.loaded h most) = (
+  λ d. rw (bytes_decide words d.words h.small d.small (h.are_bytes ∙ d.are_bytes)) d.taken,
+  λ t. record { words = words; small = h.small; are_bytes = sym h.are_bytes; most = most; taken = t },
 )
-  where
-    same : bytes_of (take n words) ≡ bytes
-    same = h.are_bytes ∙ take_all (8 * n) bytes (omega arith)
-desk_takes i {bytes} (Loaded.beyond w more e) = (λ d. absurd (omega (arith, d.most)), λ t. absurd (nothing i (rw e at t)))
-desk_takes i {bytes} (Loaded.broken w never e) = (
+desk_takes i {bytes} (Loaded.beyond more e) = (λ d. absurd (omega (arith, d.most)), λ t. absurd (nothing i (rw e at t)))
+desk_takes i {bytes} (Loaded.broken never e) = (
   λ d. absurd (never (length d.words) (ap length d.are_bytes ∙ bytes_length d.words)),
   λ t. absurd (nothing i (rw e at t)),
 )

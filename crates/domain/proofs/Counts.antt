@@ -3,7 +3,6 @@
 use mathlib.Core.{Path.◌≡◌, Path.refl, Path.sym, Path.ap, Path.ap₂, Path.◌∙◌, List.List, List.[], List.◌∷◌, List.◌++◌, List.append_assoc}
 use Prim.Native.Nat.{ℕ, zero, suc, ◌≤◌, ◌<◌, max}
 use native.Mathlib.Omega.{arith}
-use lib.ListN.{take}
 use Rattle.semantics.specs.{RuleSet.Rule, RuleSet.RuleSet, RuleSet.variables, RuleSet.WellFormed, Heap.heap_values, Domain.most_variables, Domain.ascending, Domain.good, Domain.domain}
 use Rattle.words.specs.Entries.{tabulate}
 use Rattle.words.proofs.Tabulate.{tabulate_more}
@@ -51,7 +50,7 @@ module _ (value : ℕ → ℕ) (constants rules : List ℕ) (formed : WellFormed
   same_good heap values = ap (λ (l : List ℕ). 0 ∷ l) (append_assoc constants values (heap_values (heap_in heap)))
 
   -- what is kept of the constants and further values is the domain for these
-  pub kept_domain : (heap values : List ℕ) {array : List ℕ} {n : ℕ} → Kept rules heap (constants ++ values) array n
-      → take n array ≡ domain (rule_set_as value constants rules) (heap_in heap) values
+  pub kept_domain : (heap values : List ℕ) {kept_values : List ℕ} → Kept rules heap (constants ++ values) kept_values
+      → kept_values ≡ domain (rule_set_as value constants rules) (heap_in heap) values
   unfolding domain
   kept_domain heap values kept = kept.is ∙ ap₂ (λ (m : ℕ) (l : List ℕ). ascending (with_spares m l)) (sym most_is) (same_good heap values)

@@ -1,6 +1,6 @@
--- What the crate promises: the domain for given values in a lent array. The given values are the constants and the query's.
+-- What the crate promises: the domain for given values, which are the constants and the query's.
 use mathlib.Core.{List.List, Path.◌≡◌}
-use Rattle.std.specs.Prelude.{ℕ, zero, suc, ◌≤◌, ◌<◌, max, length, take}
+use Rattle.std.specs.Prelude.{ℕ, zero, suc, ◌≤◌, ◌<◌, max, length}
 use Rattle.semantics.specs.{Domain.most_values, Domain.ascending}
 use Rattle.block.specs.{Layout.rule_count, Layout.rule_place, Ready.variables_in}
 use Rattle.domain.specs.Spare.{good_in, with_spares}
@@ -18,8 +18,7 @@ most_up_to rules (suc k) = max (most_up_to rules k) (variables_in rules (rule_pl
 abbrev pub most_in : List ℕ → ℕ
 most_in rules = most_up_to rules (rule_count rules)
 
--- The first n values of the array are nil, the given values, those of the heap and the spares, ascending.
-pub record Kept (rules heap given array : List ℕ) (n : ℕ) : Type 0 where
-  pub long : length array ≡ most_values
-  pub few : n ≤ most_values
-  pub is : take n array ≡ ascending (with_spares (most_in rules) (good_in heap given))
+-- The domain is nil, the given values, those of the heap and the spares, ascending.
+pub record Kept (rules heap given domain : List ℕ) : Type 0 where
+  pub few : length domain ≤ most_values
+  pub is : domain ≡ ascending (with_spares (most_in rules) (good_in heap given))

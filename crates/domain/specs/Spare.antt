@@ -1,7 +1,7 @@
 -- The values that a heap and a list of values give, and the spares among the other numbers.
-use mathlib.Core.{List.List, List.◌∷◌, List.◌++◌, Path.◌≡◌}
-use Rattle.std.specs.Prelude.{ℕ, ◌+◌, ◌≤◌, ◌<◌, length, take}
-use Rattle.semantics.specs.{Lists.◌among◌, Heap.WellFormedHeap, Heap.heap_values, Domain.most_values, Domain.spares, Domain.ascending}
+use mathlib.Core.{List.List, List.◌∷◌, List.◌++◌}
+use Rattle.std.specs.Prelude.{ℕ, ◌+◌, ◌≤◌, ◌<◌, length}
+use Rattle.semantics.specs.{Lists.◌among◌, Heap.WellFormedHeap, Heap.heap_values, Domain.most_values, Domain.spares}
 use Rattle.block.specs.Layout.{heap_in}
 
 -- What the list and the heap give: all good values but nil.
@@ -30,9 +30,3 @@ pub record Spare (values : List ℕ) (start v : ℕ) : Type 0 where
   pub low : start ≤ v
   pub free : ¬ (v among values)
   pub taken : (k : ℕ) → start ≤ k → k < v → k among values
-
--- The first n values of the array are those of the list, ascending and without repeat.
-pub record Carries (array : List ℕ) (n : ℕ) (values : List ℕ) : Type 0 where
-  pub long : length array ≡ most_values
-  pub few : n ≤ length values
-  pub is : take n array ≡ ascending values

@@ -3,63 +3,40 @@
 // first is text that stands before the number.
 #![tactic(auto)]
 
-ghost use Rattle.std.specs.Prelude.{◌≤◌, length, IfOk};
-
 use block::{HEAP_SIZE, QUERY_SIZE, RULE_SET_SIZE};
-use formats::Ladder;
 use input::read_full;
-use sections::section_at;
+use sections::{Sections, split, take_section};
 use std::io;
 
 // Prints the refusal, or 0.
-fn show(rt: &impl Print, book: &[u8], snapshot: &[u8], question: &[u8]) -> io::Result<()> {
+fn show(rt: &impl Print, asked: Sections<'_>) -> io::Result<()> {
     let mut rules = [0u8; RULE_SET_SIZE];
     let mut heap = [0u32; HEAP_SIZE];
     let mut query = [0u32; QUERY_SIZE];
-    let answer = formats::read(book, snapshot, question, &mut rules, &mut heap, &mut query);
-    rt.write_all(b" ")?;
-    let n = match answer {
-        Ladder::Accepted => 0,
-        Ladder::Refused(n) => n as u64,
+    let read = formats::read(
+        asked.book,
+        asked.snapshot,
+        asked.question,
+        &mut rules,
+        &mut heap,
+        &mut query,
+    );
+    let n = match read {
+        Ok(()) => 0,
+        Err(refusal) => u64::from(refusal),
     };
-    print!(rt; "{n}")
-}
-
-// The case that starts at a place. Gives the place where it ends.
-fn case(rt: &impl Print, input: &[u8], at: usize) -> io::Result<usize>
-    ensures { IfOk result (λ end. end ≤ length input.now) }
-{
-    let text = section_at(input, at);
-    let book = section_at(input, text.upto);
-    let snapshot = section_at(input, book.upto);
-    let question = section_at(input, snapshot.upto);
-    let start = text.from;
-    let end = text.upto;
-    let from = book.from;
-    let upto = book.upto;
-    let low = snapshot.from;
-    let high = snapshot.upto;
-    let first = question.from;
-    let last = question.upto;
-    rt.write_all(&input[start..end])?;
-    show(
-        rt,
-        &input[from..upto],
-        &input[low..high],
-        &input[first..last],
-    )?;
-    Ok(last)
+    print!(rt; " {n}")
 }
 
 // All cases, one after the other.
 fn cases(rt: &impl Print, input: &[u8]) -> io::Result<()> {
-    let mut at = 0;
-    while at < input.len() {
-        let next = case(rt, input, at)?;
-        if next <= at {
-            return Ok(());
-        }
-        at = next;
+    let mut rest = input;
+    while !rest.is_empty() {
+        let (text, after) = take_section(rest);
+        let (asked, after) = split(after);
+        rt.write_all(text)?;
+        show(rt, asked)?;
+        rest = after;
     }
     Ok(())
 }

@@ -7,7 +7,6 @@ use Rattle.semantics.specs.Heap.{Record, WellFormedHeap, blank}
 use Rattle.semantics.proofs.Addresses.{addresses_ascend}
 use Rattle.block.specs.Layout.{heap_in, record_count, record_address}
 use Rattle.block.proofs.HeapInBlock.{heap_count, record_is}
-use Rattle.finding.specs.Records.{RecordAt}
 
 module _ (heap : List ℕ) (formed : WellFormedHeap (heap_in heap)) where
   pub ascend : (j i : ℕ) → j < i → i < record_count heap → record_address heap j < record_address heap i
@@ -40,12 +39,3 @@ module _ (heap : List ℕ) (formed : WellFormedHeap (heap_in heap)) where
       step (yes q) d = q
       step (no q) (yes l) = absurd (omega (arith, ascend i j l hj))
       step (no q) (no l) = absurd (omega (arith, ascend j i (omega arith) hi))
-
--- what was looked for, by the number that was found
-pub is_there : {heap : List ℕ} {address r : ℕ} → RecordAt heap address r → r < record_count heap → record_address heap r ≡ address
-is_there (RecordAt.found l e) h = e
-is_there (RecordAt.none e n) h = absurd (omega arith)
-
-pub is_nowhere : {heap : List ℕ} {address r : ℕ} → RecordAt heap address r → record_count heap ≤ r → (i : ℕ) → i < record_count heap → record_address heap i ≢ address
-is_nowhere (RecordAt.found l e) h = absurd (omega arith)
-is_nowhere (RecordAt.none e n) h = n

@@ -2,9 +2,11 @@
 -- entries are open.
 use mathlib.Core.{List.List, List.[], List.◌∷◌, Path.◌≡◌, Path.refl, Path.◌∙◌, Logic.◌≢◌}
 use Prim.Native.Nat.{ℕ, zero, suc, ◌+◌, ◌≤◌, ◌<◌}
-use native.Mathlib.{Omega.arith, Decide.ℕ_discrete, Decide.dec_lt}
+use native.Mathlib.{Omega.arith, Decide.dec_lt}
 use borrow.Author.Tests.{lt-ltb, le-ltb}
-use lib.{ListN.length, ListN.get_or, ListN.set, Seq.get_or-set_same, Seq.get_or-set_other}
+use lib.{ListN.length, ListN.get_or, ListN.set, ListN.replicate}
+use Rattle.std.proofs.lemmas.Grind.{common_steps}
+use borrow.Rule.Slice.PartMut.{put_mid}
 use Rattle.finding.specs.{Values.open_entry, Values.opens, Found.Opened}
 
 known_cons : (x : ℕ) (xs : List ℕ) → x < open_entry → opens (x ∷ xs) ≡ opens xs
@@ -28,12 +30,6 @@ pub opens_less : (values : List ℕ) (v x : ℕ) → v < length values → open_
 opens_less [] v x h o l = absurd (omega arith)
 opens_less (y ∷ ys) zero x h o l = omega (arith, open_cons y ys o, known_cons x ys l)
 opens_less (y ∷ ys) (suc v) x h o l = cons_less y (set ys v x) ys (opens_less ys v x (omega arith) o l)
-
--- an entry with a value is opened
-pub opens_more : (values : List ℕ) (v : ℕ) → v < length values → get_or values v 0 < open_entry → suc (opens values) ≡ opens (set values v open_entry)
-opens_more [] v h l = absurd (omega arith)
-opens_more (y ∷ ys) zero h l = omega (arith, known_cons y ys l, open_cons open_entry ys (omega arith))
-opens_more (y ∷ ys) (suc v) h l = cons_less y ys (set ys v open_entry) (opens_more ys v (omega arith) l)
 
 -- where there is none, every entry has a value
 pub opens_none : (values : List ℕ) → opens values ≡ 0 → (v : ℕ) → get_or values v 0 < open_entry
@@ -90,16 +86,29 @@ same_known (x ∷ xs) (y ∷ ys) e k o v h =
     step (no a) (no b) zero l few rec = absurd (b l)
     step (no a) (no b) (suc w) l few rec = rec (omega (arith, open_cons x xs (omega arith), open_cons y ys (omega arith))) w l
 
--- ---- entries opened one after the other
+-- ---- entries opened together: so many, from one on
 
-pub opened_none : (from : ℕ) (values : List ℕ) → Opened from from values values
-opened_none from values = record { opened = λ v l h. absurd (omega arith); earlier = λ v h. refl; later = λ v h. refl }
+abbrev pub opened_from : ℕ → ℕ → List ℕ → List ℕ
+opened_from from n values = put_mid from n values (replicate n open_entry)
 
-pub opened_more : (from v : ℕ) (before values : List ℕ) → from ≤ v → v < length values → Opened from v before values → Opened from (v + 1) before (set values v open_entry)
-opened_more from v before values l h o =
-    let other : (w : ℕ) → w ≢ v → get_or (set values v open_entry) w 0 ≡ get_or values w 0 = λ w n. get_or-set_other values v w open_entry 0 n in
-    record {
-      opened = λ w f u. elim (ℕ_discrete w v) [ yes e ↦ rw e (get_or-set_same values v open_entry 0 h) | no n ↦ other w n ∙ o.opened w f (omega arith) ];
-      earlier = λ w u. other w (λ e. omega arith) ∙ o.earlier w u;
-      later = λ w f. other w (λ e. omega arith) ∙ o.later w (omega arith);
-    }
+pub length-opened : (from n : ℕ) (values : List ℕ) → from + n ≤ length values → length (opened_from from n values) ≡ length values
+length-opened from n values h = grind (arith, common_steps)
+
+-- where all had values, they are all that is open
+pub opens_together : (from n : ℕ) (values : List ℕ) → opens values ≡ 0 → from + n ≤ length values → opens (opened_from from n values) ≡ n
+opens_together zero zero values e h = e
+opens_together zero (suc n) [] e h = absurd (omega arith)
+opens_together zero (suc n) (y ∷ ys) e h =
+    let known = opens_none (y ∷ ys) e 0 in
+    omega (arith, open_cons open_entry (opened_from 0 n ys) (omega arith), opens_together zero n ys (omega (arith, known_cons y ys known)) (omega arith))
+opens_together (suc from) n [] e h = absurd (omega arith)
+opens_together (suc from) n (y ∷ ys) e h =
+    let known = opens_none (y ∷ ys) e 0 in
+    omega (arith, known_cons y (opened_from from n ys) known, opens_together from n ys (omega (arith, known_cons y ys known)) (omega arith))
+
+pub opened_together : (from n : ℕ) (values : List ℕ) → from + n ≤ length values → Opened from (from + n) values (opened_from from n values)
+opened_together from n values h = record {
+  opened = λ v l u. grind (arith, common_steps);
+  earlier = λ v u. grind (arith, common_steps);
+  later = λ v u. grind (arith, common_steps);
+}

@@ -24,11 +24,7 @@ pub fn begin(rules: &RuleBlock, rule: usize, values: &mut Values) -> usize
 {
     let arity = head_arity(rules, rule);
     let count = variable_count(rules, rule);
-    let mut v = arity;
-    while v < count {
-        values[v] = OPEN;
-        v += 1;
-    }
+    values[arity..count].fill(OPEN);
     count - arity
 }
 

@@ -8,10 +8,10 @@ ghost use Rattle.finding.specs.Links.{AlongPure, AlongPures, AlongFields, AlongA
 
 use super::records::{field, record_at};
 use super::values::{OPEN, Values, entry, learn, variable};
-use block::heap::{record_count, record_size};
+use block::heap::record_size;
 use block::{
-    HeapBlock, QueryBlock, RuleBlock, atom_address, atom_count, atom_fields, atom_size, pure_count,
-    pure_kind, pure_left, pure_right,
+    HeapBlock, Kind, QueryBlock, RuleBlock, atom_address, atom_count, atom_fields, atom_size,
+    kind_of, pure_count, pure_left, pure_right,
 };
 
 // Along pure condition k: where it is an equality, what is known of one side is learnt of the other.
@@ -26,7 +26,7 @@ fn along_pure(
     requires { FormedRead given.now rules.now rule × (k < pure_count rules.now rule) × Counted values.old unknown × (constant_count given.now ≤ 8) }
     ensures { AlongPure (fixed_in given.now) rules.now rule k values.old values.new × Counted values.new result }
 {
-    if pure_kind(rules, rule, k) != 0 {
+    if kind_of(rules, rule, k) == Kind::Unequal {
         return unknown;
     }
     let left = pure_left(rules, rule, k);
@@ -55,10 +55,8 @@ pub fn along_pures(
 {
     let count = pure_count(rules, rule);
     let mut left = unknown;
-    let mut k = 0;
-    while k < count {
+    for k in 0..count {
         left = along_pure(rules, rule, k, values, left, given);
-        k += 1;
     }
     left
 }
@@ -77,10 +75,8 @@ fn learn_fields(
     ensures { AlongFields rules.now terms heap.now i count values.old values.new × Counted values.new result }
 {
     let mut left = unknown;
-    let mut j = 0;
-    while j < count {
+    for j in 0..count {
         left = learn(values, left, rules[terms + j], field(heap, i, j));
-        j += 1;
     }
     left
 }
@@ -101,10 +97,9 @@ fn along_atom(
     if OPEN <= address {
         return unknown;
     }
-    let i = record_at(heap, address);
-    if record_count(heap) <= i {
+    let Some(i) = record_at(heap, address) else {
         return unknown;
-    }
+    };
     let count = atom_size(rules, rule, g);
     if record_size(heap, i) != count {
         return unknown;
@@ -125,10 +120,8 @@ pub fn along_atoms(
 {
     let count = atom_count(rules, rule);
     let mut left = unknown;
-    let mut g = 0;
-    while g < count {
+    for g in 0..count {
         left = along_atom(rules, rule, g, heap, values, left);
-        g += 1;
     }
     left
 }

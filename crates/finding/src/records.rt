@@ -8,13 +8,6 @@ ghost use Rattle.finding.specs.Records.{FirstFrom, RecordAt};
 use block::HeapBlock;
 use block::heap::{record_address, record_count, record_field};
 
-// A value as it was read.
-pub fn long(x: u32) -> u64
-    ensures { (result ≡ x) × (result < 4294967296) }
-{
-    x as u64
-}
-
 // The number of the first record whose address is not below a value, or the number of records; addresses ascend.
 fn first_from(heap: &HeapBlock, address: u64) -> usize
     requires { WellFormedHeap (heap_in heap.now) }
@@ -24,7 +17,7 @@ fn first_from(heap: &HeapBlock, address: u64) -> usize
     let mut high = record_count(heap);
     while low < high {
         let middle = (low + high) / 2;
-        if long(record_address(heap, middle)) < address {
+        if u64::from(record_address(heap, middle)) < address {
             low = middle + 1;
         } else {
             high = middle;
@@ -33,19 +26,17 @@ fn first_from(heap: &HeapBlock, address: u64) -> usize
     low
 }
 
-// The number of the record at an address, or the number of records where there is none.
-pub fn record_at(heap: &HeapBlock, address: u64) -> usize
+// The number of the record at an address.
+pub fn record_at(heap: &HeapBlock, address: u64) -> Option<usize>
     requires { WellFormedHeap (heap_in heap.now) }
     ensures { RecordAt heap.now address result }
 {
-    let count = record_count(heap);
     let i = first_from(heap, address);
-    if i < count {
-        if long(record_address(heap, i)) == address {
-            return i;
-        }
+    if i < record_count(heap) && u64::from(record_address(heap, i)) == address {
+        Some(i)
+    } else {
+        None
     }
-    count
 }
 
 // Field j of record i.
@@ -53,5 +44,5 @@ pub fn field(heap: &HeapBlock, i: usize, j: usize) -> u64
     requires { (i < 16) × (j < 4) }
     ensures { (result ≡ record_field heap.now i j) × (result < open_entry) }
 {
-    long(record_field(heap, i, j))
+    u64::from(record_field(heap, i, j))
 }

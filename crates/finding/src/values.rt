@@ -6,7 +6,6 @@ ghost use Rattle.block.specs.Layout.{term_as, constant_count, fixed_in};
 ghost use Rattle.block.specs.Ready.{Scoped};
 ghost use Rattle.finding.specs.Values.{open_entry, Counted, Learnt};
 
-use super::records::long;
 use block::QueryBlock;
 use block::heap::fixed_value;
 
@@ -20,7 +19,7 @@ pub fn variable(values: &Values, v: u8) -> u64
     requires { v < 8 }
     ensures { result ≡ get_or values.now v 0 }
 {
-    values[v as usize]
+    values[usize::from(v)]
 }
 
 // The entry of a term: a variable's, or the fixed value itself.
@@ -29,9 +28,10 @@ pub fn entry(values: &Values, term: u8, given: &QueryBlock) -> u64
     ensures { result ≡ value_of values.now (term_as (fixed_in given.now) term) }
 {
     if term < 128 {
-        return values[term as usize];
+        values[usize::from(term)]
+    } else {
+        u64::from(fixed_value(given, usize::from(term - 128)))
     }
-    long(fixed_value(given, (term - 128) as usize))
 }
 
 // Gives a term a value, unless it has one; and how many variables are open then.
@@ -39,12 +39,11 @@ pub fn learn(values: &mut Values, unknown: usize, term: u8, x: u64) -> usize
     requires { Scoped term × (x < open_entry) × Counted values.old unknown }
     ensures { Learnt term x values.old values.new × Counted values.new result }
 {
-    if term < 128 {
-        let v = term as usize;
-        if OPEN <= values[v] {
-            values[v] = x;
-            return unknown - 1;
-        }
+    let v = usize::from(term);
+    if v < 128 && OPEN <= values[v] {
+        values[v] = x;
+        unknown - 1
+    } else {
+        unknown
     }
-    unknown
 }

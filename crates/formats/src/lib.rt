@@ -8,7 +8,7 @@ ghost use Rattle.semantics.specs.Contract.{house as houseBook};
 ghost use Rattle.formats.specs.Refusal.{Read};
 
 use block::{HeapBlock, QueryBlock, RuleBlock};
-pub use reader::Ladder;
+use semantics::Refusal;
 
 // Refusals 1 to 9: the book, then the snapshot, then the question, each into its block, the book's constants into the question's. On a
 // refusal what the blocks hold means nothing.
@@ -19,16 +19,12 @@ pub fn read(
     rules: &mut RuleBlock,
     heap: &mut HeapBlock,
     query: &mut QueryBlock,
-) -> Ladder
+) -> Result<(), Refusal>
     ensures { Read book.now snapshot.now question.now rules.new heap.new query.new result }
 {
-    match book::read_rules(book, rules, query) {
-        Ladder::Refused(n) => Ladder::Refused(n),
-        Ladder::Accepted => match snapshot::read_heap(snapshot, heap) {
-            Ladder::Refused(n) => Ladder::Refused(n),
-            Ladder::Accepted => question::read_query(question, rules, query),
-        },
-    }
+    book::read_rules(book, rules, query)?;
+    snapshot::read_heap(snapshot, heap)?;
+    question::read_query(question, rules, query)
 }
 
 // ---- the house book

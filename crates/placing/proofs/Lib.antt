@@ -1,4 +1,4 @@
-pub mod Positions
+pub mod Within
 pub mod PlacingHeap
 pub mod PlacingRules
 pub mod Bridge

@@ -1,17 +1,14 @@
 -- Values replaced by their positions in the domain: a record, the heap, the query, the rules.
 use mathlib.Core.{List.List, List.map, Path.◌≡◌, Logic.◌⊎◌, Logic.◌≢◌}
-use Rattle.std.specs.Prelude.{ℕ, ◌+◌, ◌-◌, ◌≤◌, ◌<◌, length, get_or, take}
-use Rattle.semantics.specs.{Lists.◌among◌, Lists.Ascending, Domain.most_values, Fact.position, Placed.placed_rules, Placed.placed_heap}
+use Rattle.std.specs.Prelude.{ℕ, ◌+◌, ◌-◌, ◌≤◌, ◌<◌, length, get_or}
+use Rattle.semantics.specs.{Lists.◌among◌, Fact.position, Placed.placed_rules, Placed.placed_heap}
 use Rattle.words.specs.Entries.{entries}
 use Rattle.domain.specs.Insertion.{Parts}
 use Rattle.block.specs.Layout.{record_place, record_address, record_size, record_field, heap_in, rule_set_in, rule_set_read, constants_place, constant_count, fixed_in, first_constant, first_given, first_rule, rule_set_size, heap_size}
 
--- The first n values of the array ascend, and the listed values are among them: then each has one position.
-pub record Placeable (array : List ℕ) (n : ℕ) (values : List ℕ) : Type 0 where
-  pub long : length array ≡ most_values
-  pub few : n ≤ most_values
-  pub ordered : Ascending (take n array)
-  pub all : (v : ℕ) → v among values → v among take n array
+-- The listed values are in the domain, which ascends: then each has one position.
+abbrev pub Placeable : List ℕ → List ℕ → Type 0
+Placeable domain values = (v : ℕ) → v among values → v among domain
 
 -- Record k of the block `records` is that of the block `heap` in positions.
 pub record RecordPlaced (domain heap records : List ℕ) (k : ℕ) : Type 0 where
@@ -35,20 +32,17 @@ pub record QueryPlaced (domain values positions : List ℕ) : Type 0 where
   pub is : entries positions 0 (length values) ≡ map (position domain) values
   pub unused : (i : ℕ) → length values ≤ i → get_or positions i 0 ≡ 0
 
--- No byte from `start` up to `end` is above r.
-abbrev pub Highest : List ℕ → ℕ → ℕ → ℕ → Type 0
-Highest bytes start end r = (k : ℕ) → start ≤ k → k < end → get_or bytes k 0 ≤ r
-
--- A byte below 128 stays, and any other becomes 128 and the place in the array of the fixed value whose number it has.
-pub record BytePlaced (array : List ℕ) (n : ℕ) (query : List ℕ) (before after : ℕ) : Type 0 where
+-- A byte below 128 stays, and any other becomes 128 and the place in the domain of the fixed value whose number it has.
+pub record BytePlaced (domain query : List ℕ) (before after : ℕ) : Type 0 where
   pub low : before < 128 → after ≡ before
   pub high : 128 ≤ before → 128 ≤ after
-  pub place : 128 ≤ before → Parts array n (fixed_in query (before - 128)) (after - 128)
+  pub place : 128 ≤ before → Parts domain (fixed_in query (before - 128)) (after - 128)
+  pub there : 128 ≤ before → fixed_in query (before - 128) among domain → after - 128 ≡ position domain (fixed_in query (before - 128))
 
 -- The bytes from `start` up to `end` are placed, and nothing else is changed.
-pub record BytesPlaced (array : List ℕ) (n : ℕ) (query before after : List ℕ) (start end : ℕ) : Type 0 where
-  pub long : length after ≡ rule_set_size
-  pub placed : (k : ℕ) → start ≤ k → k < end → BytePlaced array n query (get_or before k 0) (get_or after k 0)
+pub record BytesPlaced (domain query before after : List ℕ) (start end : ℕ) : Type 0 where
+  pub long : length after ≡ length before
+  pub placed : (k : ℕ) → start ≤ k → k < end → BytePlaced domain query (get_or before k 0) (get_or after k 0)
   pub front : (k : ℕ) → k < start → get_or after k 0 ≡ get_or before k 0
   pub rest : (k : ℕ) → end ≤ k → get_or after k 0 ≡ get_or before k 0
 

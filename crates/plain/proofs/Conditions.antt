@@ -1,9 +1,9 @@
 -- The conditions of one rule over the classes: an equality merged, the two sides of another condition told apart.
-use mathlib.Core.{Bool.Bool, Path.◌≡◌, Path.sym, Path.ap, Path.◌∙◌, Logic.◌≢◌, List.List}
+use mathlib.Core.{Bool.Bool, Path.◌≡◌, Path.sym, Path.ap, Path.◌∙◌, List.List}
 use Prim.Native.Nat.{ℕ, ◌<◌}
 use Rattle.block.specs.Layout.{fixed_in, pure_count, pure_kind, pure_left, pure_right}
 use Rattle.block.specs.Ready.{variables_in, FormedRead}
-use Rattle.plain.specs.Classes.{entry_by, entries_of, Joined, Follows, Merged, EqualMet, UnequalMet}
+use Rattle.plain.specs.Classes.{entry_by, entries_of, Joined, Follows, Merged, EqualMet}
 use Rattle.plain.proofs.{Seats.entry_image, Merging.joined_merged}
 
 module _ (given rules : List ℕ) (at shared k : ℕ) {left right x y : ℕ} (is-left : left ≡ pure_left rules at k) (is_right : right ≡ pure_right rules at k) (classes : List ℕ)
@@ -16,12 +16,6 @@ module _ (given rules : List ℕ) (at shared k : ℕ) {left right x y : ℕ} (is
 
   y_right : y ≡ side_by (entries_of classes) (pure_right rules at k)
   y_right = is_y ∙ ap (side_by (entries_of classes)) is_right
-
-  pub entries_apart : x ≢ y → UnequalMet (fixed_in given) rules at shared k (entries_of classes)
-  entries_apart n kind e = n (x_left ∙ e ∙ sym y_right)
-
-  pub entries_same : x ≡ y → pure_kind rules at k ≢ 0 → ¬ UnequalMet (fixed_in given) rules at shared k (entries_of classes)
-  entries_same e n u = u n (sym x_left ∙ e ∙ y_right)
 
   module _ (f : FormedRead given rules at) (h : k < pure_count rules at) (is : pure_kind rules at k ≡ 0) where
     left_image : (σ : ℕ → ℕ) (w : Follows σ classes) → side_by σ (pure_left rules at k) ≡ w.image x

@@ -1,5 +1,4 @@
 pub mod Merging
-pub mod Stores
 pub mod Seats
 pub mod Conditions
 pub mod Sides

@@ -27,9 +27,6 @@ module _ (value : ℕ → ℕ) (shared : ℕ) (σ : ℕ → ℕ) (t : ℕ) where
   pub entry_shared : t < 128 → t < shared → σ t ≡ entry_by value shared σ t
   entry_shared h l = ap σ (sym (seat_shared shared t l)) ∙ entry_variable h
 
-  pub entry_own : t < 128 → shared ≤ t → σ (t + 8) ≡ entry_by value shared σ t
-  entry_own h l = ap σ (sym (seat_own shared t l)) ∙ entry_variable h
-
   pub entry_fixed : 128 ≤ t → value (t - 128) ≡ entry_by value shared σ t
   entry_fixed h = rw (le-ltb t 128 h, entry_by) refl
 

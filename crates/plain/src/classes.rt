@@ -4,12 +4,12 @@ ghost use Rattle.std.specs.Prelude.{Bool, ◌≡◌, ◌≤◌, ◌<◌, length}
 ghost use Rattle.words.specs.Told.{Told};
 ghost use Rattle.block.specs.Layout.{constant_count, fixed_in, pure_count};
 ghost use Rattle.block.specs.Ready.{Scoped, FormedRead};
-ghost use Rattle.plain.specs.Classes.{entry_by, entries_of, Fresh, Replaced, Joined, Merged, EqualMet, EqualsMet, UnequalsMet};
+ghost use Rattle.plain.specs.Classes.{entry_by, entries_of, Fresh, Replaced, Joined, Merged, EqualMet, EqualsMet, UnequalMet, UnequalsMet};
 
 use block::heap::fixed_value;
-use block::{QueryBlock, RuleBlock, pure_count, pure_kind, pure_left, pure_right};
-use finding::records::long;
+use block::{Kind, QueryBlock, RuleBlock, kind_of, pure_count, pure_left, pure_right};
 use finding::values::OPEN;
+use std::array::from_fn;
 
 // Room for two rules of eight variables each; the second has its bound ones eight places further.
 pub type Classes = [u64; 16];
@@ -21,13 +21,7 @@ pub const ALL: usize = 8;
 pub fn fresh() -> Classes
     ensures { Fresh result }
 {
-    let mut classes = [0u64; 16];
-    let mut v = 0;
-    while v < 16 {
-        classes[v] = OPEN + v as u64;
-        v += 1;
-    }
-    classes
+    from_fn(|v| OPEN + v as u64)
 }
 
 // The entry of a term of a rule whose first variables, so many, are shared.
@@ -35,14 +29,16 @@ fn entry(classes: &Classes, shared: usize, term: u8, given: &QueryBlock) -> u64
     requires { Scoped term × (constant_count given.now ≤ 8) }
     ensures { result ≡ entry_by (fixed_in given.now) shared (entries_of classes.now) term }
 {
-    if term < 128 {
-        let v = term as usize;
+    let v = usize::from(term);
+    if v < 128 {
         if v < shared {
-            return classes[v];
+            classes[v]
+        } else {
+            classes[v + 8]
         }
-        return classes[v + 8];
+    } else {
+        u64::from(fixed_value(given, v - 128))
     }
-    long(fixed_value(given, (term - 128) as usize))
 }
 
 // Each entry x becomes y.
@@ -50,12 +46,10 @@ fn replace(classes: &mut Classes, x: u64, y: u64)
     requires { length classes.old ≡ 16 }
     ensures { Replaced x y classes.old classes.new × (length classes.new ≡ 16) }
 {
-    let mut i = 0;
-    while i < 16 {
-        if classes[i] == x {
-            classes[i] = y;
+    for entry in classes.iter_mut() {
+        if *entry == x {
+            *entry = y;
         }
-        i += 1;
     }
 }
 
@@ -90,7 +84,7 @@ fn merge_pure(
     requires { FormedRead given.now rules.now rule × (k < pure_count rules.now rule) × (constant_count given.now ≤ 8) × (length classes.old ≡ 16) }
     ensures { Merged (EqualMet (fixed_in given.now) rules.now rule shared k) classes.old classes.new result × (length classes.new ≡ 16) }
 {
-    if pure_kind(rules, rule, k) != 0 {
+    if kind_of(rules, rule, k) == Kind::Unequal {
         return true;
     }
     let x = entry(classes, shared, pure_left(rules, rule, k), given);
@@ -110,15 +104,29 @@ pub fn merge(
     ensures { Merged (EqualsMet (fixed_in given.now) rules.now rule shared (pure_count rules.now rule)) classes.old classes.new result × (length classes.new ≡ 16) }
 {
     let count = pure_count(rules, rule);
-    let mut k = 0;
-    while k < count {
-        if merge_pure(rules, rule, k, shared, classes, given) {
-            k += 1;
-        } else {
+    for k in 0..count {
+        if !merge_pure(rules, rule, k, shared, classes, given) {
             return false;
         }
     }
     true
+}
+
+// Whether condition k of a rule is an equality, or has different entries on its sides.
+fn told_apart(
+    rules: &RuleBlock,
+    rule: usize,
+    k: usize,
+    shared: usize,
+    classes: &Classes,
+    given: &QueryBlock,
+) -> bool
+    requires { FormedRead given.now rules.now rule × (k < pure_count rules.now rule) × (constant_count given.now ≤ 8) }
+    ensures { Told result (UnequalMet (fixed_in given.now) rules.now rule shared k (entries_of classes.now)) }
+{
+    kind_of(rules, rule, k) == Kind::Equal
+        || entry(classes, shared, pure_left(rules, rule, k), given)
+            != entry(classes, shared, pure_right(rules, rule, k), given)
 }
 
 // Whether no unequal condition of a rule has the same entry on both sides.
@@ -132,17 +140,5 @@ pub fn apart(
     requires { FormedRead given.now rules.now rule × (constant_count given.now ≤ 8) }
     ensures { Told result (UnequalsMet (fixed_in given.now) rules.now rule shared (pure_count rules.now rule) (entries_of classes.now)) }
 {
-    let count = pure_count(rules, rule);
-    let mut k = 0;
-    while k < count {
-        if pure_kind(rules, rule, k) != 0 {
-            let x = entry(classes, shared, pure_left(rules, rule, k), given);
-            let y = entry(classes, shared, pure_right(rules, rule, k), given);
-            if x == y {
-                return false;
-            }
-        }
-        k += 1;
-    }
-    true
+    (0..pure_count(rules, rule)).all(|k| told_apart(rules, rule, k, shared, classes, given))
 }

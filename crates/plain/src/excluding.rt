@@ -11,19 +11,15 @@ ghost use Rattle.plain.specs.Plain.{RulesReadable, RulePlace, ExcludesFrom, Excl
 
 use super::classes::{ALL, Classes, apart, fresh, merge};
 use block::{
-    QueryBlock, RuleBlock, head, head_arity, pure_count, pure_kind, pure_left, pure_right,
+    QueryBlock, RuleBlock, head, head_arity, kind_of, pure_count, pure_left, pure_right,
     rule_count, rule_place,
 };
-use words::wide;
 
 // Whether a term is one of so many arguments, or a fixed value: in two rules with one head it is the same.
 fn shared(term: u8, arity: usize) -> bool
     ensures { Told result (Shared arity term) }
 {
-    if 128 <= term {
-        return true;
-    }
-    wide(term) < arity
+    128 <= term || usize::from(term) < arity
 }
 
 // Whether only one of the conditions k of two rules is an equality.
@@ -31,10 +27,7 @@ fn kinds_differ(rules: &RuleBlock, rule: usize, other: usize, k: usize) -> bool
     requires { (rule + rule_size ≤ rule_set_size) × (other + rule_size ≤ rule_set_size) × (k < 8) }
     ensures { result ≡ true → KindsDiffer rules.now rule other k }
 {
-    if pure_kind(rules, rule, k) == 0 {
-        return pure_kind(rules, other, k) != 0;
-    }
-    pure_kind(rules, other, k) == 0
+    kind_of(rules, rule, k) != kind_of(rules, other, k)
 }
 
 // Whether the conditions k of two rules have the same terms, in either order.
@@ -42,15 +35,9 @@ fn same_terms(rules: &RuleBlock, rule: usize, other: usize, k: usize) -> bool
     requires { (rule + rule_size ≤ rule_set_size) × (other + rule_size ≤ rule_set_size) × (k < 8) }
     ensures { result ≡ true → SameTerms rules.now rule other k }
 {
-    let left = pure_left(rules, other, k);
-    let right = pure_right(rules, other, k);
-    if pure_left(rules, rule, k) == left {
-        return pure_right(rules, rule, k) == right;
-    }
-    if pure_left(rules, rule, k) == right {
-        return pure_right(rules, rule, k) == left;
-    }
-    false
+    let (left, right) = (pure_left(rules, rule, k), pure_right(rules, rule, k));
+    let (first, second) = (pure_left(rules, other, k), pure_right(rules, other, k));
+    (left == first && right == second) || (left == second && right == first)
 }
 
 // Whether the conditions k of two rules compare the same arguments or fixed values, and only one is an equality.
@@ -58,17 +45,12 @@ fn opposed(rules: &RuleBlock, rule: usize, other: usize, k: usize) -> bool
     requires { (rule + rule_size ≤ rule_set_size) × (other + rule_size ≤ rule_set_size) × (k < pure_count rules.now rule) × (pure_count rules.now rule ≤ 8) }
     ensures { result ≡ true → Opposed rules.now rule other k }
 {
-    if k < pure_count(rules, other) {
-        if kinds_differ(rules, rule, other, k) {
-            if same_terms(rules, rule, other, k) {
-                let arity = head_arity(rules, rule);
-                if shared(pure_left(rules, rule, k), arity) {
-                    return shared(pure_right(rules, rule, k), arity);
-                }
-            }
-        }
-    }
-    false
+    let arity = head_arity(rules, rule);
+    k < pure_count(rules, other)
+        && kinds_differ(rules, rule, other, k)
+        && same_terms(rules, rule, other, k)
+        && shared(pure_left(rules, rule, k), arity)
+        && shared(pure_right(rules, rule, k), arity)
 }
 
 // Whether two rules are told apart at a glance: by their predicates, or by conditions of one number that are opposed. Most books keep their
@@ -77,18 +59,8 @@ fn parted(rules: &RuleBlock, rule: usize, other: usize) -> bool
     requires { (rule + rule_size ≤ rule_set_size) × (other + rule_size ≤ rule_set_size) × (pure_count rules.now rule ≤ 8) }
     ensures { Parted rules.now rule other result }
 {
-    if head(rules, rule) != head(rules, other) {
-        return true;
-    }
-    let count = pure_count(rules, rule);
-    let mut k = 0;
-    while k < count {
-        if opposed(rules, rule, other, k) {
-            return true;
-        }
-        k += 1;
-    }
-    false
+    head(rules, rule) != head(rules, other)
+        || (0..pure_count(rules, rule)).any(|k| opposed(rules, rule, other, k))
 }
 
 // Whether some values meet the conditions of both rules; the classes are those of the first rule.
@@ -104,12 +76,9 @@ fn overlap(
 {
     let shared = head_arity(rules, rule);
     let mut both = *classes;
-    if merge(rules, other, shared, &mut both, given) {
-        if apart(rules, rule, ALL, &both, given) {
-            return apart(rules, other, shared, &both, given);
-        }
-    }
-    false
+    merge(rules, other, shared, &mut both, given)
+        && apart(rules, rule, ALL, &both, given)
+        && apart(rules, other, shared, &both, given)
 }
 
 // Whether two rules have different predicates, or exclude each other.
@@ -123,13 +92,7 @@ fn excludes(
     requires { RulesReadable given.now rules.now × RulePlace given.now rules.now rule × RulePlace given.now rules.now other × ClassesOf (fixed_in given.now) rules.now rule classes.now × (length classes.now ≡ 16) }
     ensures { Told result (Exclude (rule_set_read given.now rules.now) (rule_as (fixed_in given.now) rules.now rule) (rule_as (fixed_in given.now) rules.now other)) }
 {
-    if parted(rules, rule, other) {
-        return true;
-    }
-    if overlap(rules, rule, other, classes, given) {
-        return false;
-    }
-    true
+    parted(rules, rule, other) || !overlap(rules, rule, other, classes, given)
 }
 
 // Whether rule r and each rule from the first on exclude each other. A rule that nothing meets excludes every other.
@@ -140,16 +103,12 @@ fn excludes_from(rules: &RuleBlock, r: usize, first: usize, given: &QueryBlock) 
     let count = rule_count(rules);
     let rule = rule_place(r);
     let mut classes = fresh();
-    if merge(rules, rule, ALL, &mut classes, given) {
-        if apart(rules, rule, ALL, &classes, given) {
-            let mut other = first;
-            while other < count {
-                if excludes(rules, rule, rule_place(other), &classes, given) {
-                    other += 1;
-                } else {
-                    return false;
-                }
-            }
+    if !merge(rules, rule, ALL, &mut classes, given) || !apart(rules, rule, ALL, &classes, given) {
+        return true;
+    }
+    for other in first..count {
+        if !excludes(rules, rule, rule_place(other), &classes, given) {
+            return false;
         }
     }
     true
@@ -162,11 +121,8 @@ pub fn excludes_later(rules: &RuleBlock, r: usize, given: &QueryBlock) -> bool
 {
     let count = rule_count(rules);
     let rule = rule_place(r);
-    let mut other = r + 1;
-    while other < count {
-        if parted(rules, rule, rule_place(other)) {
-            other += 1;
-        } else {
+    for other in r + 1..count {
+        if !parted(rules, rule, rule_place(other)) {
             return excludes_from(rules, r, other, given);
         }
     }

@@ -7,8 +7,8 @@ ghost use Rattle.finding.specs.Values.{Counted, Shaped, Valued};
 ghost use Rattle.plain.specs.Fixing.{Given, Passes, AlongPure, AlongPures, AlongAtoms, AllFixedIn};
 
 use block::{
-    RuleBlock, atom_address, atom_count, atom_fields, atom_size, pure_count, pure_kind, pure_left,
-    pure_right, pure_terms,
+    Kind, RuleBlock, atom_address, atom_count, atom_fields, atom_size, kind_of, pure_count,
+    pure_left, pure_right, pure_terms,
 };
 use finding::begin;
 use finding::values::{OPEN, Values, learn};
@@ -18,10 +18,7 @@ fn fixed(values: &Values, term: u8) -> bool
     requires { Scoped term }
     ensures { Told result (Valued values.now term) }
 {
-    if term < 128 {
-        return values[term as usize] < OPEN;
-    }
-    true
+    128 <= term || values[usize::from(term)] < OPEN
 }
 
 // Fixes so many terms, from a place of the rules on.
@@ -30,10 +27,8 @@ fn fix(rules: &RuleBlock, terms: usize, count: usize, values: &mut Values, unkno
     ensures { Given rules.now terms count values.old values.new × Counted values.new result }
 {
     let mut left = unknown;
-    let mut j = 0;
-    while j < count {
+    for j in 0..count {
         left = learn(values, left, rules[terms + j], 0);
-        j += 1;
     }
     left
 }
@@ -51,9 +46,10 @@ fn pass(
     ensures { Passes rules.now from terms count values.old values.new × Counted values.new result }
 {
     if fixed(values, from) {
-        return fix(rules, terms, count, values, unknown);
+        fix(rules, terms, count, values, unknown)
+    } else {
+        unknown
     }
-    unknown
 }
 
 // Along condition k, if it is an equality: from the left to the right, and back.
@@ -67,7 +63,7 @@ fn along_pure(
     requires { Shaped rules.now rule × (k < pure_count rules.now rule) × Counted values.old unknown }
     ensures { AlongPure rules.now rule k values.old values.new × Counted values.new result }
 {
-    if pure_kind(rules, rule, k) != 0 {
+    if kind_of(rules, rule, k) == Kind::Unequal {
         return unknown;
     }
     let terms = pure_terms(rule, k);
@@ -89,10 +85,8 @@ fn along_pures(rules: &RuleBlock, rule: usize, values: &mut Values, unknown: usi
 {
     let count = pure_count(rules, rule);
     let mut left = unknown;
-    let mut k = 0;
-    while k < count {
+    for k in 0..count {
         left = along_pure(rules, rule, k, values, left);
-        k += 1;
     }
     left
 }
@@ -104,8 +98,7 @@ fn along_atoms(rules: &RuleBlock, rule: usize, values: &mut Values, unknown: usi
 {
     let count = atom_count(rules, rule);
     let mut left = unknown;
-    let mut g = 0;
-    while g < count {
+    for g in 0..count {
         left = pass(
             rules,
             atom_address(rules, rule, g),
@@ -114,7 +107,6 @@ fn along_atoms(rules: &RuleBlock, rule: usize, values: &mut Values, unknown: usi
             values,
             left,
         );
-        g += 1;
     }
     left
 }

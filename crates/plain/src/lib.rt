@@ -22,10 +22,7 @@ fn consumes(rules: &RuleBlock, rule: usize) -> bool
     requires { Shaped rules.now rule }
     ensures { Told result (ConsumesIn rules.now rule) }
 {
-    if call_count(rules, rule) == 0 {
-        return true;
-    }
-    atom_count(rules, rule) != 0
+    call_count(rules, rule) == 0 || atom_count(rules, rule) != 0
 }
 
 // Whether rule r is as a plain rule set asks, alone and with each later rule.
@@ -34,12 +31,7 @@ fn plain_rule(rules: &RuleBlock, r: usize, given: &QueryBlock) -> bool
     ensures { Told result (PlainRule (rule_set_read given.now rules.now) r) }
 {
     let rule = rule_place(r);
-    if consumes(rules, rule) {
-        if fixes(rules, rule) {
-            return excludes_later(rules, r, given);
-        }
-    }
-    false
+    consumes(rules, rule) && fixes(rules, rule) && excludes_later(rules, r, given)
 }
 
 // Whether the rule set is plain.
@@ -47,14 +39,5 @@ pub fn plain(rules: &RuleBlock, given: &QueryBlock) -> bool
     requires { RulesReadable given.now rules.now }
     ensures { Told result (Plain (rule_set_read given.now rules.now)) }
 {
-    let count = rule_count(rules);
-    let mut r = 0;
-    while r < count {
-        if plain_rule(rules, r, given) {
-            r += 1;
-        } else {
-            return false;
-        }
-    }
-    true
+    (0..rule_count(rules)).all(|r| plain_rule(rules, r, given))
 }

@@ -1,20 +1,30 @@
--- At the end of the reading: what the cursor says of the bytes that are left is what the definition says.
+-- At the end of the reading: what is left says what the definition says.
 use mathlib.Core.{Path.◌≡◌, Path.refl, Path.ap, Path.◌∙◌, List.List, List.[], List.◌∷◌}
-use Prim.Native.Nat.{ℕ}
-use lib.ListN.{drop}
-use Rattle.semantics.specs.Reader.{Got, got, Reader, all}
-use Rattle.reader.specs.{Cursor.read_upto, Cursor.Yields, Answer.result_of, Answer.unless_more, Answer.finished}
-use Rattle.reader.specs.declared.Cursor.{Cursor}
-use Rattle.reader.specs.declared.Cursor.TheVariants.{At, Fault}
+use Prim.Native.Nat.{ℕ, ◌<◌}
+use lib.{ListN.length, ListN.drop, Seq.drop-cons}
+use Rattle.std.specs.Prelude.{Result, Ok, Err, IsErrAnd}
+use Rattle.semantics.specs.Numbered.{number_of}
+use Rattle.semantics.specs.declared.Refusal.{Refusal}
+use Rattle.semantics.specs.Reader.{Got, got, Reader, refused, all}
+use Rattle.reader.specs.{Outcome.Yields, Answer.result_of, Answer.unless_more}
 
-all_rest : {A : Type 0} (more : ℕ) (a : A) (rest : List ℕ) → all more (got a rest) ≡ result_of (unless_more more rest) a
+all_rest : {A : Type 0} (more : Refusal) (a : A) (rest : List ℕ) → all (number_of more) (got a rest) ≡ result_of (unless_more more rest) a
 all_rest more a [] = refl
 all_rest more a (b ∷ rest) = refl
 
-all-upto : {A : Type 0} (more : ℕ) (bytes : List ℕ) (c : Cursor) (a : A) → all more (read_upto bytes c a) ≡ result_of (finished more bytes c) a
-all-upto more bytes (At at) a = all_rest more a (drop at bytes)
-all-upto more bytes (Fault n) a = refl
+pub finish_is : {A : Type 0} {bytes left : List ℕ} {a : A} (more : Refusal) (read : Reader A) → Yields read bytes left (Ok a)
+    → all (number_of more) (read bytes) ≡ result_of (unless_more more left) a
+finish_is {A} {left = left} {a} more read h = ap (λ (g : Got A). all (number_of more) g) h.is ∙ all_rest more a left
 
-pub finish_is : {A : Type 0} {bytes : List ℕ} {c : Cursor} {a : A} (more : ℕ) (read : Reader A) → Yields read bytes (At 0) c a
-    → all more (read bytes) ≡ result_of (finished more bytes c) a
-finish_is {A} {bytes} {c} {a} more read h = ap (λ (g : Got A). all more g) h.is ∙ all-upto more bytes c a
+pub refused_is : {A : Type 0} {bytes left : List ℕ} {e : Refusal} (more : ℕ) (read : Reader A) → Yields read bytes left (Err e) → all more (read bytes) ≡ refused (number_of e)
+refused_is {A} more read h = ap (λ (g : Got A). all more g) h.is
+
+-- at the exit of a `?`
+pub exit_is : {A : Type 0} {bytes left : List ℕ} {e : Refusal} (r : Result (Unit {0}) Refusal) (more : ℕ) (read : Reader A) (a : A) → IsErrAnd r (λ y. y ≡ e)
+    → Yields read bytes left (Err e) → all more (read bytes) ≡ result_of r a
+exit_is (Ok x) more read a i h = absurd i
+exit_is (Err y) more read a i h = rw i (refused_is more read h)
+
+-- a byte behind the place
+pub more_left : (more : Refusal) (bytes : List ℕ) (at : ℕ) → at < length bytes → Err more ≡ unless_more more (drop at bytes)
+more_left more bytes at h = rw (drop-cons bytes at 0) refl

@@ -4,12 +4,13 @@ use mathlib.Core.{Path.◌≡◌, Path.sym, Path.ap, Path.◌∙◌, Logic.inl, 
 use Prim.Native.Nat.{ℕ, ◌+◌, ◌*◌, ◌≤◌, ◌<◌}
 use native.Mathlib.{Nat.mul-suc, Nat.mul-le-mul_left, Numerals.add-one, Omega.arith, Decide.dec_lt}
 use lib.ListN.{get_or}
+use Rattle.std.specs.Prelude.{Ok, Err}
 use Rattle.semantics.specs.Reader.{Reader}
+use Rattle.semantics.specs.declared.Refusal.{Refusal}
 use Rattle.words.specs.Entries.{tabulate, entries}
 use Rattle.words.proofs.Tabulate.{tabulate_more, tabulate_same}
-use Rattle.reader.specs.{Cursor.Yields, Layout.Layout, Layout.KeptOutside, Layout.Fills, Layout.single, Layout.row, Layout.many}
-use Rattle.reader.specs.declared.Cursor.{Cursor}
-use Rattle.reader.proofs.{Chain.become, Counting.times_none, Counting.times_more, Keep.kept_none, Keep.kept_both}
+use Rattle.reader.specs.{Outcome.Yields, Layout.Layout, Layout.KeptOutside, Layout.Fills, Layout.single, Layout.row, Layout.many}
+use Rattle.reader.proofs.{Chain.become, Counting.times_none, Counting.times_more, Counting.times_stop, Keep.kept_none, Keep.kept_both, Keep.stops}
 
 -- An entry looks at no place but its own and those below `low`.
 pub record Local {A : Type 0} (layout : Layout A) : Type 0 where
@@ -26,13 +27,13 @@ before_place w i k l = rw (← mul-suc w i) (mul-le-mul_left w l)
 
 module _ {A : Type 0} (layout : Layout A) where
   -- one entry more, however the entries are read
-  pub row_more : Local layout → {bytes : List ℕ} {c₀ c c' : Cursor} {b₀ b b' : List ℕ} {read : Reader (List A)} (read' : Reader (List A)) (from k : ℕ) → layout.low ≤ from
-      → Fills (row k read layout) from bytes c₀ b₀ b c → layout.Sized b' (from + layout.width * k)
+  pub row_more : {B C : Type 0} {x : B} (z : C) → Local layout → {s s₁ s₂ : List ℕ} {b₀ b b' : List ℕ} {read : Reader (List A)} (read' : Reader (List A)) (from k : ℕ) → layout.low ≤ from
+      → Fills (row k read layout) from s s₁ b₀ b (Ok x) → layout.Sized b' (from + layout.width * k)
       → KeptOutside (from + layout.width * k) (from + layout.width * k + layout.width) b b'
-      → Yields read' bytes c₀ c' (tabulate k (λ (i : ℕ). layout.held b (from + layout.width * i)) ++ (layout.held b' (from + layout.width * k) ∷ []))
-      → Fills (row (k + 1) read' layout) from bytes c₀ b₀ b' c'
-  row_more local {b = b} {b' = b'} read' from k l h sized kept e = record {
-    reads = become values e;
+      → Yields read' s s₂ (Ok (tabulate k (λ (i : ℕ). layout.held b (from + layout.width * i)) ++ (layout.held b' (from + layout.width * k) ∷ [])))
+      → Fills (row (k + 1) read' layout) from s s₂ b₀ b' (Ok z)
+  row_more z local {b = b} {b' = b'} read' from k l h sized kept e = record {
+    reads = become (ap (λ (xs : List A). Ok xs) values) e;
     sized = λ i p. all i p (dec_lt i k);
     kept = kept_both _ _ h.kept kept (omega (arith, next_place layout.width k));
   }
@@ -53,32 +54,36 @@ module _ {A : Type 0} (layout : Layout A) where
           (tabulate_same k (λ (i : ℕ). layout.held b (from + layout.width * i)) (λ (i : ℕ). layout.held b' (from + layout.width * i)) (λ i p. sym (here i p).0))
           ∙ sym (rw (add-one k) (tabulate_more k (λ (i : ℕ). layout.held b' (from + layout.width * i))))
 
--- What a loop has done after k turns: k of `count` entries are filled.
-pub record Filled {A : Type 0} (layout : Layout A) (from count : ℕ) (bytes : List ℕ) (c : Cursor) (b : List ℕ) (k : ℕ) (b' : List ℕ) (c' : Cursor) : Type 0 where
-  pub within : k ≤ count
-  pub fills : Fills (many k layout) from bytes c b b' c'
+  -- a refusal at an entry is that of all
+  pub row_stop : {s s' : List ℕ} {b₀ b b' : List ℕ} {e : Refusal} {B : Type 0} (read' : Reader (List A)) (from k count : ℕ) → k < count
+      → KeptOutside from (from + layout.width * k) b₀ b → KeptOutside (from + layout.width * k) (from + layout.width * k + layout.width) b b'
+      → Yields read' s s' (Err e) → Fills {B = B} (row count read' layout) from s s' b₀ b' (Err e)
+  row_stop read' from k count l h kept e = stops (row count read' layout) e (kept_both _ _ h kept (omega (arith, before_place layout.width k count l)))
 
-module _ {A : Type 0} {layout : Layout A} {from count : ℕ} {bytes : List ℕ} {c₀ : Cursor} {b₀ : List ℕ} where
-  pub none : Filled layout from count bytes c₀ b₀ 0 b₀ c₀
+-- What a loop has done after k turns: k entries are filled.
+pub record Filled {A : Type 0} (layout : Layout A) (from : ℕ) (before block : List ℕ) (k : ℕ) (now block' : List ℕ) : Type 0 where
+  pub fills : Fills (many k layout) from before now block block' (Ok (tt {0}))
+
+module _ {A : Type 0} {layout : Layout A} {from : ℕ} {before b₀ : List ℕ} where
+  pub none : Filled layout from before b₀ 0 before b₀
   unfolding tabulate
-  none = record {
-    within = omega arith;
-    fills = record { reads = times_none layout.read bytes c₀; sized = λ k l. absurd (omega arith); kept = kept_none _ _ b₀ };
-  }
+  none = record { fills = record { reads = times_none layout.read before; sized = λ k l. absurd (omega arith); kept = kept_none _ _ b₀ } }
 
   -- one entry more
-  pub more : Local layout → {c c' : Cursor} {b b' : List ℕ} {at k : ℕ} → layout.low ≤ from → Filled layout from count bytes c₀ b₀ k b c → Fills layout at bytes c b b' c'
-      → k < count → at ≡ from + layout.width * k → Filled layout from count bytes c₀ b₀ (k + 1) b' c'
-  more local {c} {c'} {b} {b'} {at} {k} l h here p e = record { within = omega arith; fills = further (rw e at here) }
+  pub more : Local layout → {s s' b b' : List ℕ} {at k : ℕ} {B : Type 0} {x : B} → layout.low ≤ from → Filled layout from before b₀ k s b → Fills layout at s s' b b' (Ok x)
+      → at ≡ from + layout.width * k → Filled layout from before b₀ (k + 1) s' b'
+  more local {s} {s'} {b} {b'} {at} {k} {B} {x} l h here e = record { fills = further (rw e at here) }
     where
-      further : Fills layout (from + layout.width * k) bytes c b b' c' → Fills (many (k + 1) layout) from bytes c₀ b₀ b' c'
-      further here =
-          row_more layout local _ from k l h.fills here.sized here.kept
-          (rw (add-one k) (times_more layout.read k _ _ h.fills.reads here.reads))
+      further : Fills {B = B} layout (from + layout.width * k) s s' b b' (Ok x) → Fills (many (k + 1) layout) from before s' b₀ b' (Ok (tt {0}))
+      further here = row_more layout (tt {0}) local _ from k l h.fills here.sized here.kept (rw (add-one k) (times_more layout.read k _ _ h.fills.reads here.reads))
 
-  -- all of them
-  pub whole : {c : Cursor} {b : List ℕ} {k : ℕ} → count ≤ k → Filled layout from count bytes c₀ b₀ k b c → Fills (many count layout) from bytes c₀ b₀ b c
-  whole {k = k} l h = let e : k ≡ count = omega (arith, h.within) in rw e at h.fills
+  -- a refusal at the next entry
+  pub broken : {s s' b b' : List ℕ} {at k : ℕ} {e : Refusal} {B : Type 0} (count : ℕ) → Filled layout from before b₀ k s b → Fills {B = B} layout at s s' b b' (Err e) → k < count
+      → at ≡ from + layout.width * k → Fills {B = Unit {0}} (many count layout) from before s' b₀ b' (Err e)
+  broken {s} {s'} {b} {b'} {at} {k} {e} {B} count h here p q = further (rw q at here)
+    where
+      further : Fills {B = B} layout (from + layout.width * k) s s' b b' (Err e) → Fills {B = Unit {0}} (many count layout) from before s' b₀ b' (Err e)
+      further here = row_stop layout _ from k count p h.fills.kept here.kept (times_stop layout.read count k _ p h.fills.reads here.reads)
 
 -- an entry of one place, and entries side by side
 pub single_local : {A : Type 0} (read : Reader A) (value : ℕ → A) (In : ℕ → Type 0) → Local (single read value In)

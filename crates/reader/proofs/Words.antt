@@ -1,25 +1,43 @@
 -- Numbers of four bytes.
-use mathlib.Core.{Path.◌≡◌, List.List, List.[], List.◌∷◌}
-use Prim.Native.Nat.{ℕ, ◌+◌, ◌*◌}
+use mathlib.Core.{Path.◌≡◌, Path.refl, Path.sym, Path.ap, List.List, List.[], List.◌∷◌}
+use Prim.Native.Nat.{ℕ, ◌+◌, ◌<◌, ◌≤◌}
 use native.Mathlib.Omega.{arith}
-use Rattle.semantics.specs.{Lists.digits, Reader.give, Reader.byte, Reader.word, Formats.value}
-use Rattle.reader.specs.{Cursor.Yields, Layout.value_layout, Layout.Any}
-use Rattle.reader.specs.declared.Cursor.{Cursor}
-use Rattle.reader.proofs.{Chain.chain, Chain.done, Chain.become, Section.Local, Section.single_local, Counting.times_none, Counting.times_more}
+use lib.{ListN.length, ListN.take, ListN.drop, Seq.drop-drop}
+use Rattle.std.specs.{Prelude.Ok, Prelude.Err, Int.w32, Int.from_le_bytes}
+use Rattle.semantics.specs.Numbered.{number_of}
+use Rattle.semantics.specs.declared.Refusal.{Refusal}
+use Rattle.semantics.specs.{Lists.digits, Reader.got, Reader.times, Reader.word, Formats.value}
+use Rattle.reader.specs.{Outcome.Yields, Layout.value_layout, Layout.Any}
+use Rattle.reader.proofs.{Section.Local, Section.single_local}
 
-word_value : (x y z w : ℕ) → digits 256 (x ∷ y ∷ z ∷ w ∷ []) ≡ x + 256 * y + 65536 * (z + 256 * w)
+digits_of : (x y z w : ℕ) → digits 256 (x ∷ y ∷ z ∷ w ∷ []) ≡ from_le_bytes w32 (x ∷ y ∷ z ∷ w ∷ [])
 unfolding digits
-word_value x y z w = omega arith
+digits_of x y z w = omega arith
 
-pub word_read : {bytes : List ℕ} {c c₁ c₂ c₃ c₄ : Cursor} {x y z w : ℕ} (short : ℕ) → Yields (byte short) bytes c c₁ x → Yields (byte short) bytes c₁ c₂ y
-    → Yields (byte short) bytes c₂ c₃ z → Yields (byte short) bytes c₃ c₄ w → Yields (word short) bytes c c₄ (x + 256 * y + 65536 * (z + 256 * w))
-unfolding word
-word_read {bytes} {c} {c₄ = c₄} {x} {y} {z} {w} short h₁ h₂ h₃ h₄ =
-    let t₁ = times_more (byte short) 0 [] x (times_none (byte short) bytes c) h₁ in
-    let t₂ = times_more (byte short) 1 (x ∷ []) y t₁ h₂ in
-    let t₃ = times_more (byte short) 2 (x ∷ y ∷ []) z t₂ h₃ in
-    let t₄ = times_more (byte short) 3 (x ∷ y ∷ z ∷ []) w t₃ h₄ in
-    become (word_value x y z w) (chain (λ bs. give (digits 256 bs)) t₄ (done bytes c₄ _))
+pub word_short : (short : Refusal) (s : List ℕ) {s' : List ℕ} → length s < 4 → Yields (word (number_of short)) s s' (Err short)
+unfolding word times
+word_short short [] l = record { is = refl }
+word_short short (x ∷ []) l = record { is = refl }
+word_short short (x ∷ y ∷ []) l = record { is = refl }
+word_short short (x ∷ y ∷ z ∷ []) l = record { is = refl }
+word_short short (x ∷ y ∷ z ∷ w ∷ s) l = absurd (omega arith)
+
+word_taken : (short : ℕ) (s : List ℕ) → 4 ≤ length s → word short s ≡ got (from_le_bytes w32 (take 4 s)) (drop 4 s)
+unfolding word times
+word_taken short [] l = absurd (omega arith)
+word_taken short (x ∷ []) l = absurd (omega arith)
+word_taken short (x ∷ y ∷ []) l = absurd (omega arith)
+word_taken short (x ∷ y ∷ z ∷ []) l = absurd (omega arith)
+word_taken short (x ∷ y ∷ z ∷ w ∷ s) l = ap (λ (v : ℕ). got v s) (digits_of x y z w)
+
+pub word_read : (short : ℕ) (s : List ℕ) {taken left : List ℕ} {v : ℕ} → taken ≡ take 4 s → left ≡ drop 4 s → 4 ≤ length s → v ≡ from_le_bytes w32 taken
+    → Yields (word short) s left (Ok v)
+word_read short s t l n e = record { is = rw (e, t, l) (word_taken short s n) }
+
+-- the same from a place of the bytes on
+pub word_behind : (short : ℕ) (bytes : List ℕ) (at : ℕ) {taken : List ℕ} {v : ℕ} → taken ≡ take 4 (drop at bytes) → 4 ≤ length (drop at bytes)
+    → v ≡ from_le_bytes w32 taken → Yields (word short) (drop at bytes) (drop (at + 4) bytes) (Ok v)
+word_behind short bytes at t n e = word_read short (drop at bytes) t (sym (drop-drop 4 at bytes)) n e
 
 pub value_local : (short : ℕ) → Local (value_layout short)
 value_local short = single_local (value short) (λ v. v) Any

@@ -1,13 +1,13 @@
 -- How entries are read and where they lie in a block, and what a reader that fills a block promises.
 use mathlib.Core.{List.List, Logic.◌⊎◌, Path.◌≡◌}
-use Rattle.std.specs.Prelude.{ℕ, ◌+◌, ◌*◌, ◌≤◌, ◌<◌, length, get_or}
+use Rattle.std.specs.Prelude.{ℕ, ◌+◌, ◌*◌, ◌≤◌, ◌<◌, length, get_or, Result, OnOk, IfOk}
 use Rattle.semantics.specs.{Reader.Reader, Reader.times, Formats.value}
+use Rattle.semantics.specs.declared.Refusal.{Refusal}
 use Rattle.words.specs.Entries.{tabulate}
-use Rattle.reader.specs.Cursor.{Yields}
-use Rattle.reader.specs.declared.Cursor.{Cursor}
+use Rattle.reader.specs.Outcome.{Yields, valued}
 
--- A kind of entry: its reader, the entry at a place of a block, its width, and what holds of its bytes after a fault too. An entry looks
--- at no byte but its own and those below `low`.
+-- A kind of entry: its reader, the entry at a place of a block, its width, and what holds of the numbers of one that was read. An entry looks
+-- at no number but its own and those below `low`.
 pub record Layout (A : Type 0) : Type 1 where
   pub read : Reader A
   pub held : List ℕ → ℕ → A
@@ -20,11 +20,17 @@ pub record KeptOutside (from to : ℕ) (block block' : List ℕ) : Type 0 where
   pub long : length block' ≡ length block
   pub same : (i : ℕ) → (i < from) ⊎ (to ≤ i) → get_or block' i 0 ≡ get_or block i 0
 
--- What a reader that fills a block promises: what was read lies at its place, and the rest of the block is as before.
-pub record Fills {A : Type 0} (layout : Layout A) (at : ℕ) (bytes : List ℕ) (c : Cursor) (block block' : List ℕ) (r : Cursor) : Type 0 where
-  pub reads : Yields layout.read bytes c r (layout.held block' at)
-  pub sized : layout.Sized block' at
+-- What a reader that fills a block promises: what was read lies at its place, or the refusal is the reader's; and the rest of the block is as
+-- before.
+pub record Fills {A B : Type 0} (layout : Layout A) (at : ℕ) (before after block block' : List ℕ) (r : Result B Refusal) : Type 0 where
+  pub reads : Yields layout.read before after (valued r (layout.held block' at))
+  pub sized : OnOk r (layout.Sized block' at)
   pub kept : KeptOutside at (at + layout.width) block block'
+
+-- The same for a reader that also gives the number at the place.
+pub record Gives {A : Type 0} (layout : Layout A) (at : ℕ) (before after block block' : List ℕ) (r : Result ℕ Refusal) : Type 0 where
+  pub fills : Fills layout at before after block block' r
+  pub number : IfOk r (λ v. v ≡ get_or block' at 0)
 
 -- An entry of one place: `value` says what the number there stands for, and `In` holds of it.
 abbrev pub single : {A : Type 0} → Reader A → (ℕ → A) → (ℕ → Type 0) → Layout A

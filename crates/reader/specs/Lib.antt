@@ -1,3 +1,3 @@
 pub mod Answer
-pub mod Cursor
 pub mod Layout
+pub mod Outcome

@@ -1,99 +1,61 @@
-// Single bytes, each from a cursor to the next, and the answer at the end of the reading. `byte_at` is the one function that looks at the
-// lent bytes.
-ghost use Rattle.std.specs.Prelude.{◌≡◌, ◌≤◌};
+// Single bytes, and the end of the reading. `byte` is the one function that looks at the lent bytes one by one.
+ghost use Rattle.std.specs.Prelude.{◌≡◌, OnErr};
 ghost use Rattle.semantics.specs.Reader.{byte as byteReader};
-ghost use Rattle.reader.specs.Cursor.{next_byte, Yields, stopped, Ranged, BelowBound};
-ghost use Rattle.reader.specs.Answer.{finished};
+ghost use Rattle.semantics.specs.Numbered.{number_of};
+ghost use Rattle.reader.specs.Outcome.{Yields, Ranged, BelowBound};
+ghost use Rattle.reader.specs.Answer.{unless_more};
 
-use super::{Cursor, Entry, Ladder};
+use super::Reader;
+use semantics::Refusal;
 
-// The byte at a place and where reading goes on; `short` is the fault where there is none.
-fn byte_at(s: &[u8], at: usize, short: u8) -> Entry
-    ensures { result ≡ next_byte short s.now at }
-{
-    if at < s.len() {
-        return Entry {
-            cursor: Cursor::At(at + 1),
-            value: s[at],
-        };
+impl Reader<'_> {
+    // The next byte; `short` refuses where there is none.
+    pub fn byte(&mut self, short: Refusal) -> Result<u8, Refusal>
+        ensures reads { Yields (byteReader (number_of short)) self.old self.new result }
+        ensures refused { OnErr result (self.new ≡ self.old) }
+    {
+        if self.at == self.bytes.len() {
+            return Err(short);
+        }
+        let byte = self.bytes[self.at];
+        self.at += 1;
+        Ok(byte)
     }
-    Entry {
-        cursor: Cursor::Fault(short),
-        value: 0,
-    }
-}
 
-// The next byte; `short` is the fault where there is none.
-pub fn byte(s: &[u8], c: Cursor, short: u8) -> Entry
-    ensures { Yields (byteReader short) s.now c result.cursor result.value }
-{
-    match c {
-        Cursor::At(at) => byte_at(s, at, short),
-        Cursor::Fault(n) => Entry {
-            cursor: Cursor::Fault(n),
-            value: 0,
-        },
-    }
-}
-
-// A fault here, unless one was met before.
-pub fn stop(c: Cursor, fault: u8) -> Cursor
-    ensures { result ≡ stopped fault c }
-{
-    match c {
-        Cursor::At(_) => Cursor::Fault(fault),
-        Cursor::Fault(n) => Cursor::Fault(n),
-    }
-}
-
-// A byte from `least` to `most`; `range` is the fault for another.
-pub fn ranged(s: &[u8], c: Cursor, short: u8, range: u8, least: u8, most: u8) -> Entry
-    requires { least ≤ most }
-    ensures { Ranged short range least most s.now c result }
-{
-    let b = byte(s, c, short);
-    let v = b.value;
-    if least <= v {
-        if v <= most {
-            return b;
+    // A byte from `least` to `most`; `range` refuses another.
+    pub fn ranged(
+        &mut self,
+        short: Refusal,
+        range: Refusal,
+        least: u8,
+        most: u8,
+    ) -> Result<u8, Refusal>
+        ensures { Ranged (number_of short) (number_of range) least most self.old self.new result }
+    {
+        let b = self.byte(short)?;
+        if (least..=most).contains(&b) {
+            Ok(b)
+        } else {
+            Err(range)
         }
     }
-    let next = b.cursor;
-    Entry {
-        cursor: stop(next, range),
-        value: least,
-    }
-}
 
-// A byte below `n`.
-pub fn below(s: &[u8], c: Cursor, short: u8, fault: u8, n: u8) -> Entry
-    ensures { BelowBound short fault n s.now c result }
-{
-    let b = byte(s, c, short);
-    let v = b.value;
-    if v < n {
-        return b;
+    // A byte below `n`; `off` refuses another.
+    pub fn below(&mut self, short: Refusal, off: Refusal, n: u8) -> Result<u8, Refusal>
+        ensures { BelowBound (number_of short) (number_of off) n self.old self.new result }
+    {
+        let b = self.byte(short)?;
+        if b < n { Ok(b) } else { Err(off) }
     }
-    let next = b.cursor;
-    Entry {
-        cursor: stop(next, fault),
-        value: 0,
-    }
-}
 
-// The answer at the end of the reading; `more` is the refusal where a byte is left.
-pub fn finish(s: &[u8], c: Cursor, more: u8) -> Ladder
-    ensures { result ≡ finished more s.now c }
-{
-    match c {
-        Cursor::At(at) => {
-            let e = byte_at(s, at, more);
-            let next = e.cursor;
-            if let Cursor::At(_) = next {
-                return Ladder::Refused(more);
-            }
-            Ladder::Accepted
+    // The end of the reading; `more` refuses where a byte is left.
+    pub fn finish(self, more: Refusal) -> Result<(), Refusal>
+        ensures { result ≡ unless_more more self.entry }
+    {
+        if self.at == self.bytes.len() {
+            Ok(())
+        } else {
+            Err(more)
         }
-        Cursor::Fault(n) => Ladder::Refused(n),
     }
 }

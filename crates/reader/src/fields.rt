@@ -1,40 +1,28 @@
 // Numbers of four bytes, and the values that fields, queries and constants have.
-ghost use Rattle.std.specs.Prelude.{◌≡◌, ◌+◌, ◌≤◌, ◌<◌, length};
+ghost use Rattle.std.specs.Prelude.{OnErr, ◌≡◌, ◌+◌, ◌≤◌, ◌<◌, length};
 ghost use Rattle.semantics.specs.Reader.{word as word_reader};
 ghost use Rattle.semantics.specs.Formats.{as_read};
-ghost use Rattle.reader.specs.Cursor.{Yields};
+ghost use Rattle.semantics.specs.Numbered.{number_of};
+ghost use Rattle.reader.specs.Outcome.{Yields};
 ghost use Rattle.reader.specs.Layout.{value_layout, Fills, many};
 
-use super::bytes::byte;
-use super::{Cursor, Number};
+use super::Reader;
+use semantics::Refusal;
 
 // The end mark: FFFFFFFF.
 pub const END_MARK: u32 = 4294967295;
 
-// A byte as a number of a block.
-pub fn wide(b: u8) -> u32
-    ensures { (result ≡ b) × (result < 256) }
-{
-    b as u32
-}
-
-// Four bytes, lowest first.
-pub fn word(s: &[u8], c: Cursor, short: u8) -> Number
-    ensures { Yields (word_reader short) s.now c result.cursor result.value }
-{
-    let b0 = byte(s, c, short);
-    let c = b0.cursor;
-    let b1 = byte(s, c, short);
-    let c = b1.cursor;
-    let b2 = byte(s, c, short);
-    let c = b2.cursor;
-    let b3 = byte(s, c, short);
-    let c = b3.cursor;
-    let low = wide(b0.value) + 256 * wide(b1.value);
-    let high = wide(b2.value) + 256 * wide(b3.value);
-    Number {
-        cursor: c,
-        value: low + 65536 * high,
+impl Reader<'_> {
+    // Four bytes, lowest first; `short` refuses where there are fewer.
+    pub fn word(&mut self, short: Refusal) -> Result<u32, Refusal>
+        ensures reads { Yields (word_reader (number_of short)) self.old self.new result }
+        ensures refused { OnErr result (self.new ≡ self.old) }
+    {
+        let Some(word) = self.bytes[self.at..].first_chunk::<4>() else {
+            return Err(short);
+        };
+        self.at += 4;
+        Ok(u32::from_le_bytes(*word))
     }
 }
 
@@ -42,34 +30,31 @@ pub fn word(s: &[u8], c: Cursor, short: u8) -> Number
 fn as_read(v: u32) -> u32
     ensures { result ≡ as_read v }
 {
-    if v == END_MARK {
-        return 0;
-    }
-    v
+    if v == END_MARK { 0 } else { v }
 }
 
 // A field, a query's value or a constant.
-fn value(s: &[u8], c: Cursor, block: &mut [u32], at: usize, short: u8) -> Cursor
+fn value(reader: &mut Reader, block: &mut [u32], at: usize, short: Refusal) -> Result<(), Refusal>
     requires { at < length block.old }
-    ensures { Fills (value_layout short) at s.now c block.old block.new result }
+    ensures { Fills (value_layout (number_of short)) at reader.old reader.new block.old block.new result }
 {
-    let w = word(s, c, short);
-    block[at] = as_read(w.value);
-    let next = w.cursor;
-    next
+    block[at] = as_read(reader.word(short)?);
+    Ok(())
 }
 
 // `count` values.
-pub fn values(s: &[u8], c: Cursor, block: &mut [u32], from: usize, count: u32, short: u8) -> Cursor
+pub fn values(
+    reader: &mut Reader,
+    block: &mut [u32],
+    from: usize,
+    count: usize,
+    short: Refusal,
+) -> Result<(), Refusal>
     requires { from + count ≤ length block.old }
-    ensures { Fills (many count (value_layout short)) from s.now c block.old block.new result }
+    ensures { Fills (many count (value_layout (number_of short))) from reader.old reader.new block.old block.new result }
 {
-    let most = count as usize;
-    let mut next = c;
-    let mut k: usize = 0;
-    while k < most {
-        next = value(s, next, block, from + k, short);
-        k += 1;
+    for k in 0..count {
+        value(reader, block, from + k, short)?;
     }
-    next
+    Ok(())
 }

@@ -1,29 +1,27 @@
 -- What `split` says, in the words of the definitions: the bytes of the three sections, which book they stand for, and so what the engine
 -- was asked.
-use mathlib.Core.{Path.◌≡◌, Path.refl, Path.sym, Path.ap, Path.◌∙◌, List.List, List.[], List.◌∷◌}
-use Prim.Native.Nat.{ℕ, ◌-◌, ◌<◌}
+use mathlib.Core.{Path.◌≡◌, Path.ap, Path.refl, Path.sym, Path.◌∙◌, List.List, List.[], List.◌∷◌}
+use Prim.Native.Nat.{ℕ, ◌<◌}
 use native.Mathlib.Omega.{arith}
-use lib.{ListN.length, ListN.take, ListN.drop, ListN.length-drop, Seq.length-take-le}
-use Rattle.semantics.specs.Contract.{first_section, other_sections, house, book_or, book_section, snapshot_section, question_section, Decided}
+use lib.ListN.{length}
+use Rattle.semantics.specs.Contract.{house, book_or, book_section, snapshot_section, question_section, Decided}
 use Rattle.semantics.specs.declared.Reply.{Reply}
 use Rattle.sections.specs.Sections.{Splits}
 
-module _ (input : List ℕ) {from upto from' upto' from'' upto'' : ℕ} (s : Splits input from upto from' upto' from'' upto'') where
-  pub snapshot_bytes : take (upto' - from') (drop from' input) ≡ snapshot_section input
-  snapshot_bytes = s.snapshot.bytes ∙ ap first_section s.book.after
+module _ (input : List ℕ) {book snapshot question rest : List ℕ} (s : Splits input book snapshot question rest) where
+  pub snapshot_bytes : snapshot ≡ snapshot_section input
+  snapshot_bytes = s.is_snapshot.is_first
 
-  pub question_bytes : take (upto'' - from'') (drop from'' input) ≡ question_section input
-  question_bytes = s.question.bytes ∙ ap first_section (s.snapshot.after ∙ ap other_sections s.book.after)
+  pub question_bytes : question ≡ question_section input
+  question_bytes = s.is_question.is_first
 
   -- an empty section stands for the house book
-  pub book_house : from ≡ upto → book_section input ≡ house
-  book_house e =
-      let z : upto - from ≡ 0 = omega arith in
-      ap book_or (sym s.book.bytes ∙ ap (λ (n : ℕ). take n (drop from input)) z)
+  pub book_house : book ≡ [] → book_section input ≡ house
+  book_house e = ap book_or (sym s.is_book.is_first ∙ e)
 
   -- any other for itself
-  pub book_own : from < upto → take (upto - from) (drop from input) ≡ book_section input
-  book_own l = own (take (upto - from) (drop from input)) (omega (arith, s.book.within, length-drop from input, length-take-le (upto - from) (drop from input) (omega (arith, s.book.within, length-drop from input)))) ∙ ap book_or s.book.bytes
+  pub book_own : 0 < length book → book ≡ book_section input
+  book_own l = own book l ∙ ap book_or s.is_book.is_first
     where
       own : (bytes : List ℕ) → 0 < length bytes → bytes ≡ book_or bytes
       own [] h = absurd (omega arith)

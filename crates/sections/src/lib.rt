@@ -1,102 +1,63 @@
 // The bench program's input: three sections, and the engine's reply to them.
 #![tactic(auto)]
 
-ghost use Rattle.std.specs.Prelude.{◌≡◌, ◌-◌, length};
-ghost use Rattle.semantics.specs.Contract.{book_section, snapshot_section, question_section, Decided};
-ghost use Rattle.sections.specs.Sections.{SectionAt, Splits};
+ghost use Rattle.semantics.specs.Contract.{book_section, snapshot_section, question_section, book_or, Decided};
+ghost use Rattle.sections.specs.Sections.{IsSection, Splits};
 
 use semantics::Reply;
-use words::wide;
 
-// The bytes of a section, from one place up to another.
+// The bytes of the sections, without their lengths.
 #[derive(Clone, Copy)]
-pub struct Section {
-    pub from: usize,
-    pub upto: usize,
+pub struct Sections<'a> {
+    pub book: &'a [u8],
+    pub snapshot: &'a [u8],
+    pub question: &'a [u8],
 }
 
-#[derive(Clone, Copy)]
-pub struct Sections {
-    pub book: Section,
-    pub snapshot: Section,
-    pub question: Section,
+impl Sections<'_> {
+    // The engine's reply. Where the section of the book is empty, the house book stands for it.
+    pub fn answer(&self, table: &mut [u64], space: &mut [u64]) -> Reply
+        ensures { Decided (book_or self.now.book.now) self.now.snapshot.now self.now.question.now table.old space.old result table.new space.new }
+    {
+        if self.book.is_empty() {
+            let house = formats::house();
+            return engine::decide(&house, self.snapshot, self.question, table, space);
+        }
+        engine::decide(self.book, self.snapshot, self.question, table, space)
+    }
 }
 
-// How many bytes there are from a place on.
-fn bytes_from(s: &[u8], at: usize) -> usize
-    ensures { result ≡ length s.now - at }
+// The section that starts with its length, and what comes after it. Where a byte of the length is missing both are empty; where the length
+// is more than what is left, the section is what is left.
+pub fn take_section(bytes: &[u8]) -> (&[u8], &[u8])
+    ensures { IsSection bytes.now result.0.now result.1.now }
 {
-    if at < s.len() {
-        return s.len() - at;
-    }
-    0
+    let Some((length, rest)) = bytes.split_first_chunk() else {
+        return (&[], &[]);
+    };
+    let length = usize::from(u16::from_le_bytes(*length));
+    rest.split_at(length.min(rest.len()))
 }
 
-// The section whose length stands at a place. Where a byte of the length is missing nothing follows it, so the section is empty; where the
-// length is more than what is left, the section is what is left.
-pub fn section_at(s: &[u8], at: usize) -> Section
-    ensures { SectionAt s.now at result.from result.upto }
+// Book, snapshot and question, each after its length, and what comes after them.
+pub fn split(input: &[u8]) -> (Sections<'_>, &[u8])
+    ensures { Splits input.now result.0.book.now result.0.snapshot.now result.0.question.now result.1.now }
 {
-    let left = bytes_from(s, at);
-    if left < 2 {
-        return Section {
-            from: s.len(),
-            upto: s.len(),
-        };
-    }
-    let from = at + 2;
-    let size = wide(s[at]) + 256 * wide(s[at + 1]);
-    if left - 2 < size {
-        return Section {
-            from,
-            upto: s.len(),
-        };
-    }
-    Section {
-        from,
-        upto: from + size,
-    }
-}
-
-// Book, snapshot and question, each after its length.
-pub fn split(input: &[u8]) -> Sections
-    ensures { Splits input.now result.book.from result.book.upto result.snapshot.from result.snapshot.upto result.question.from result.question.upto }
-{
-    let book = section_at(input, 0);
-    let snapshot = section_at(input, book.upto);
-    let question = section_at(input, snapshot.upto);
-    Sections {
+    let (book, rest) = take_section(input);
+    let (snapshot, rest) = take_section(rest);
+    let (question, rest) = take_section(rest);
+    let sections = Sections {
         book,
         snapshot,
         question,
-    }
+    };
+    (sections, rest)
 }
 
-// The engine's reply about the book that is given, and the snapshot and the question of an input.
-fn decide(book: &[u8], input: &[u8], all: Sections, table: &mut [u64], space: &mut [u64]) -> Reply
-    requires { Splits input.now all.book.from all.book.upto all.snapshot.from all.snapshot.upto all.question.from all.question.upto }
-    ensures { Decided book.now (snapshot_section input.now) (question_section input.now) table.old space.old result table.new space.new }
-{
-    let snapshot = all.snapshot;
-    let question = all.question;
-    let low = snapshot.from;
-    let high = snapshot.upto;
-    let first = question.from;
-    let last = question.upto;
-    engine::decide(book, &input[low..high], &input[first..last], table, space)
-}
-
-// The engine's reply to an input. Where the section of the book is empty, the house book stands for it.
+// The engine's reply to an input.
 pub fn answer(input: &[u8], table: &mut [u64], space: &mut [u64]) -> Reply
     ensures { Decided (book_section input.now) (snapshot_section input.now) (question_section input.now) table.old space.old result table.new space.new }
 {
-    let all = split(input);
-    let book = all.book;
-    let from = book.from;
-    let upto = book.upto;
-    if from == upto {
-        let house = formats::house();
-        return decide(&house, input, all, table, space);
-    }
-    decide(&input[from..upto], input, all, table, space)
+    let (sections, _) = split(input);
+    sections.answer(table, space)
 }

@@ -2,50 +2,27 @@
 // behind it those that it shares a record with. examples/sharing.py has the words, and derives the lines from the records in each.
 #![tactic(auto)]
 
-ghost use Rattle.std.specs.Prelude.{◌+◌, ◌*◌, ◌<◌, length};
-
 use input::read_full;
 use std::io;
-use words::wide;
-
-// Word k.
-fn word(input: &[u8], k: usize) -> u16
-    requires { 2 * k + 1 < length input.now }
-{
-    (wide(input[2 * k]) + 256 * wide(input[2 * k + 1])) as u16
-}
-
-// A word in base sixteen, after some text.
-fn print(rt: &impl Print, before: &[u8], it: u16) -> io::Result<()> {
-    rt.write_all(before)?;
-    print!(rt; "{it:04x}")
-}
 
 // The words that share a record with one.
-fn sharing(rt: &impl Print, input: &[u8], one: u16) -> io::Result<()> {
-    let count = input.len() / 2;
-    let mut k = 0;
-    while k < count {
-        let other = word(input, k);
+fn sharing(rt: &impl Print, words: &[[u8; 2]], one: u16) -> io::Result<()> {
+    for bytes in words {
+        let other = u16::from_le_bytes(*bytes);
         if words::shares(one, other) {
-            print(rt, b" ", other)?;
+            print!(rt; " {other:04x}")?;
         }
-        k += 1;
     }
     Ok(())
 }
 
 // A line for each word.
-fn lines(rt: &impl Print, input: &[u8]) -> io::Result<()> {
-    let count = input.len() / 2;
-    let mut k = 0;
-    while k < count {
-        let one = word(input, k);
-        print(rt, b"", one)?;
-        rt.write_all(b":")?;
-        sharing(rt, input, one)?;
-        rt.write_all(b"\n")?;
-        k += 1;
+fn lines(rt: &impl Print, words: &[[u8; 2]]) -> io::Result<()> {
+    for bytes in words {
+        let one = u16::from_le_bytes(*bytes);
+        print!(rt; "{one:04x}:")?;
+        sharing(rt, words, one)?;
+        println!(rt)?;
     }
     Ok(())
 }
@@ -53,5 +30,6 @@ fn lines(rt: &impl Print, input: &[u8]) -> io::Result<()> {
 fn main(rt: HostRuntime) -> io::Result<()> {
     let mut buffer = [0u8; 4096];
     let n = read_full(&mut rt.reader(), &mut buffer)?;
-    lines(&rt, &buffer[..n])
+    let (words, _) = buffer[..n].as_chunks();
+    lines(&rt, words)
 }

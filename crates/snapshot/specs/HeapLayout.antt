@@ -1,12 +1,12 @@
 -- How the entries of a snapshot are read and where they lie in a block of numbers.
 use mathlib.Core.{List.List, Path.◌≡◌}
-use Rattle.std.specs.Prelude.{ℕ, ◌+◌, ◌≤◌, length, get_or}
-use Rattle.semantics.specs.{Heap.Record, Heap.Heap, Reader.Reader, Reader.◌>>=◌, Reader.give, Reader.word, Reader.counted}
-use Rattle.semantics.specs.Formats.{value, address, records, snapshot, read_snapshot}
+use Rattle.std.specs.Prelude.{ℕ, ◌+◌, ◌≤◌, length, get_or, Result}
+use Rattle.semantics.specs.{Heap.Record, Heap.Heap, Reader.Reader, Reader.◌>>=◌, Reader.give, Reader.counted}
+use Rattle.semantics.specs.Formats.{value, address, records, read_snapshot}
+use Rattle.semantics.specs.declared.Refusal.{Refusal}
 use Rattle.block.specs.Layout.{record_in, heap_in, record_room}
-use Rattle.reader.specs.{Answer.result_of, Cursor.Yields, Cursor.ranged_byte, Cursor.Within}
-use Rattle.reader.specs.Layout.{Layout, KeptOutside, single, row, Any}
-use Rattle.reader.specs.declared.{Cursor.Cursor, Ladder.Ladder}
+use Rattle.reader.specs.{Answer.result_of, Outcome.ranged_byte, Outcome.Within}
+use Rattle.reader.specs.Layout.{Layout, single, row, Any}
 
 -- An address above `low`, and a count of at most `most`.
 abbrev pub address_layout : ℕ → Layout ℕ
@@ -29,23 +29,7 @@ record_layout low = record { read = record_above low; held = record_in; Sized = 
 abbrev pub records_layout : ℕ → Layout Heap
 records_layout count = row count (records count 0) (record_layout 0)
 
--- What is promised after four bytes that were read up to a cursor: the entry that begins with them, from wherever that was, lies at its
--- place, and the rest of the block is as before.
-pub record AfterWord {A : Type 0} (layout : Layout A) (at : ℕ) (bytes : List ℕ) (c : Cursor) (v : ℕ) (block block' : List ℕ) (r : Cursor) : Type 0 where
-  pub reads : (c₀ : Cursor) → Yields (word 5) bytes c₀ c v → Yields layout.read bytes c₀ r (layout.held block' at)
-  pub sized : layout.Sized block' at
-  pub kept : KeptOutside at (at + layout.width) block block'
-
--- An address needs no other byte.
-abbrev pub AddressAfter : (low at : ℕ) → Cursor → ℕ → List ℕ → List ℕ → Cursor → Type 0
-AddressAfter low at c v block block' r = (bytes : List ℕ) → AfterWord (address_layout low) at bytes c v block block' r
-
--- What the reader of the snapshot's section promises.
-pub record HeapFills (bytes : List ℕ) (c : Cursor) (block block' : List ℕ) (r : Cursor) : Type 0 where
-  pub reads : Yields snapshot bytes c r (heap_in block')
-  pub long : length block' ≡ length block
-
 -- What the reader of a snapshot promises.
-pub record HeapRead (snapshot block block' : List ℕ) (r : Ladder) : Type 0 where
+pub record HeapRead (snapshot block block' : List ℕ) (r : Result (Unit {0}) Refusal) : Type 0 where
   pub is : read_snapshot snapshot ≡ result_of r (heap_in block')
   pub long : length block' ≡ length block

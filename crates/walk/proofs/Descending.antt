@@ -1,14 +1,14 @@
 -- From what a call comes to, to what the calls of the chosen rule and the predicate come to.
-use mathlib.Core.{Bool.Bool, Bool.true, Bool.false, Bool.false≢true, Path.◌≡◌, Path.sym, Path.◌∙◌, Path.subst, List.List, List.[], List.◌∷◌, Logic.◌≢◌, Option.Option}
+use mathlib.Core.{Path.◌≡◌, Path.subst, List.List, List.[], List.◌∷◌, Logic.◌≢◌, Option.Option}
 use Prim.Native.Nat.{ℕ, suc, ◌+◌, ◌-◌, ◌≤◌, ◌<◌}
 use native.Mathlib.Omega.{arith}
 use lib.ListN.{drop}
-use Rattle.semantics.specs.{RuleSet.Rule, Tree.values_of, WalkOutcome.WalkOutcome, WalkOutcome.CallsOutcome}
+use Rattle.semantics.specs.{Tree.values_of, WalkOutcome.WalkOutcome, WalkOutcome.CallsOutcome}
 use Rattle.semantics.proofs.{WalkSteps.node_next}
 use Rattle.words.proofs.Tabulate.{tabulate-drop, tabulate_past}
 use Rattle.block.specs.Layout.{rule_as, call_as, rule_set_read, fixed_in, heap_in, call_count, call_place, call_predicate}
-use Rattle.walk.specs.declared.Choice.{Choice}
-use Rattle.walk.specs.Walk.{Readable, arguments_in, values_in, ChosenAt, NotChosen, Chooses, CallsWith, WalksFrom, answer}
+use Rattle.std.specs.Prelude.{Option as Result}
+use Rattle.walk.specs.Walk.{Readable, arguments_in, values_in, ChosenAt, CallsWith, WalksFrom, answer}
 
 pub call_here : (value : ℕ → ℕ) (rules : List ℕ) (rule c : ℕ) → c < call_count rules rule
     → drop c (rule_as value rules rule).calls ≡ call_as value rules (call_place rule c) ∷ drop (c + 1) (rule_as value rules rule).calls
@@ -18,13 +18,12 @@ pub calls_past : (value : ℕ → ℕ) (rules : List ℕ) (rule c : ℕ) → cal
 calls_past value rules rule c h = tabulate_past (call_count rules rule) (λ i. call_as value rules (call_place rule i)) c h
 
 -- a call with its arguments
-pub call_outcome : (given rules heap : List ℕ) (rule c : ℕ) (values : List ℕ) {fuel called : ℕ} {below : List ℕ} {mask after : ℕ} {ok b : Bool}
-    → called ≡ call_predicate rules rule c → CallsWith given rules rule c values below → WalksFrom given rules heap fuel called below mask ok after → ok ≡ b
-    → WalkOutcome (rule_set_read given rules) (heap_in heap) fuel (call_predicate rules rule c) (values_of (values_in rules rule values) (call_as (fixed_in given) rules (call_place rule c)).arguments) mask (answer b after)
-call_outcome given rules heap rule c values {fuel} {called} {below} {mask} {after} {ok} {b} e w o is =
-    subst (λ (vs : List ℕ). WalkOutcome (rule_set_read given rules) (heap_in heap) fuel (call_predicate rules rule c) vs mask (answer b after)) w.are_values
-    (subst (λ (p : ℕ). WalkOutcome (rule_set_read given rules) (heap_in heap) fuel p (arguments_in rules p below) mask (answer b after)) e
-    (subst (λ (x : Bool). WalkOutcome (rule_set_read given rules) (heap_in heap) fuel called (arguments_in rules called below) mask (answer x after)) is o.outcome))
+pub call_outcome : (given rules heap : List ℕ) (rule c : ℕ) (values : List ℕ) {fuel called : ℕ} {below : List ℕ} {mask : ℕ} (r : Result ℕ)
+    → called ≡ call_predicate rules rule c → CallsWith given rules rule c values below → WalksFrom given rules heap fuel called below mask r
+    → WalkOutcome (rule_set_read given rules) (heap_in heap) fuel (call_predicate rules rule c) (values_of (values_in rules rule values) (call_as (fixed_in given) rules (call_place rule c)).arguments) mask (answer r)
+call_outcome given rules heap rule c values {fuel} {called} {below} {mask} r e w o =
+    subst (λ (vs : List ℕ). WalkOutcome (rule_set_read given rules) (heap_in heap) fuel (call_predicate rules rule c) vs mask (answer r)) w.are_values
+    (subst (λ (p : ℕ). WalkOutcome (rule_set_read given rules) (heap_in heap) fuel p (arguments_in rules p below) mask (answer r)) e o.outcome)
 
 -- the predicate, from the rule that is chosen for it and what its calls come to
 pub chosen_outcome : {given rules heap : List ℕ} → Readable given rules heap → {rule predicate : ℕ} {arguments : List ℕ} {mask : ℕ} {values : List ℕ} {after fuel : ℕ} → fuel ≢ 0
@@ -35,13 +34,3 @@ chosen_outcome {given} {rules} {heap} readable {predicate = predicate} {argument
     let e : suc (fuel - 1) ≡ fuel = omega arith in
     subst (λ (n : ℕ). WalkOutcome (rule_set_read given rules) (heap_in heap) n predicate (arguments_in rules predicate arguments) mask o) e
     (node_next (rule_set_read given rules) (heap_in heap) readable.heap_formed.ordered c.chosen calls)
-
--- a choice's answer
-module _ {given rules heap : List ℕ} {predicate : ℕ} {arguments : List ℕ} {mask : ℕ} {values : List ℕ} {r : Choice} where
-  pub choice_made : Chooses given rules heap predicate arguments mask values r → r.ok ≡ true → ChosenAt given rules r.rule heap predicate arguments mask values r.mask
-  choice_made (Chooses.chosen e c) t = c
-  choice_made (Chooses.nothing e n) t = absurd (false≢true (sym e ∙ t))
-
-  pub choice_none : Chooses given rules heap predicate arguments mask values r → r.ok ≡ false → (rule : Rule) → NotChosen given rules heap predicate arguments mask rule
-  choice_none (Chooses.chosen e c) t = absurd (false≢true (sym t ∙ e))
-  choice_none (Chooses.nothing e n) t = n

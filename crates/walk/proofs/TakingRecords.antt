@@ -1,5 +1,5 @@
 -- The record that a points-to atom asks for is the one at its address, so that one look decides; and atom after atom, what the rest takes.
-use mathlib.Core.{Bool.true, Bool.false, Bool.false≢true, Path.◌≡◌, Path.sym, Path.ap, Path.◌∙◌, List.List, List.[], List.◌∷◌}
+use mathlib.Core.{Logic.◌≢◌, Path.◌≡◌, Path.sym, Path.ap, Path.◌∙◌, List.List, List.[], List.◌∷◌}
 use Prim.Native.Nat.{ℕ, ◌+◌, ◌≤◌, ◌<◌}
 use native.Mathlib.Omega.{arith}
 use lib.{ListN.length, ListN.get_or, ListN.drop}
@@ -8,10 +8,8 @@ use Rattle.semantics.proofs.{Addresses.address_once, WalkLoops.AtomsLeft, WalkLo
 use Rattle.words.proofs.Tabulate.{tabulate-drop, tabulate_past}
 use Rattle.block.specs.Layout.{atom_as, rule_as, heap_in, atom_count, atom_place, atom_address, record_count, record_address}
 use Rattle.block.proofs.HeapInBlock.{heap_count, record_is}
-use Rattle.finding.specs.Records.{RecordAt}
-use Rattle.finding.proofs.Addresses.{is_nowhere}
 use Rattle.semantics.specs.WalkOutcome.{TakesFreely}
-use Rattle.walk.specs.Taking.{TakesFree}
+use Rattle.walk.specs.Taking.{RecordTaken, NoneFree}
 
 module _ (value : ℕ → ℕ) (rules : List ℕ) (rule g : ℕ) (σ heap : List ℕ) where
   -- record k is as atom g asks
@@ -22,9 +20,9 @@ module _ (value : ℕ → ℕ) (rules : List ℕ) (rule g : ℕ) (σ heap : List
   wanted_address k h e = ap (λ (r : Record). r.address) (record_is heap k (omega (arith, heap_count heap)) ∙ e)
 
   -- there is none where no record has the address
-  pub nowhere : {address r : ℕ} → address ≡ get_or σ (atom_address rules rule g) 0 → RecordAt heap address r → record_count heap ≤ r
+  pub nowhere : {address : ℕ} → address ≡ get_or σ (atom_address rules rule g) 0 → ((i : ℕ) → i < record_count heap → record_address heap i ≢ address)
       → (k : ℕ) → k < length (heap_in heap) → Wanted k → ⊥
-  nowhere is at l k low w = is_nowhere at l k (omega (arith, heap_count heap)) (wanted_address k low w ∙ sym is)
+  nowhere is none k low w = none k (omega (arith, heap_count heap)) (wanted_address k low w ∙ sym is)
 
   -- it is the one at the address
   pub only : WellFormedHeap (heap_in heap) → (i : ℕ) → i < record_count heap → record_address heap i ≡ get_or σ (atom_address rules rule g) 0
@@ -44,10 +42,8 @@ atoms_past value rules rule g h = tabulate_past (atom_count rules rule) (λ i. a
 
 module _ {heap : Heap} {σ : List ℕ} {atoms : List PointsTo} {mask g now : ℕ} (left : AtomsLeft heap σ atoms mask g now) {atom : PointsTo}
     (here : drop g atoms ≡ atom ∷ drop (g + 1) atoms) where
-  pub taken_next : Ordered heap → {after : ℕ} → TakesFree heap σ atom now true after → AtomsLeft heap σ atoms mask (g + 1) after
-  taken_next ordered (TakesFree.taken ok i h e free q) = rw q (atoms_next left here ordered i h e free)
-  taken_next ordered (TakesFree.stuck ok s) = absurd (false≢true (sym ok))
+  pub taken_next : Ordered heap → {after : ℕ} → RecordTaken heap σ atom now after → AtomsLeft heap σ atoms mask (g + 1) after
+  taken_next ordered t = rw t.marked (atoms_next left here ordered t.i t.below t.is t.free)
 
-  pub stuck_stop : {after : ℕ} → TakesFree heap σ atom now false after → (later : ℕ) → ¬ TakesFreely heap σ atoms mask later
-  stuck_stop (TakesFree.taken ok i h e free q) = absurd (false≢true ok)
-  stuck_stop (TakesFree.stuck ok s) = atoms_stop left here s
+  pub stuck_stop : NoneFree heap σ atom now → (later : ℕ) → ¬ TakesFreely heap σ atoms mask later
+  stuck_stop none = atoms_stop left here none

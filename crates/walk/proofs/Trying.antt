@@ -1,6 +1,6 @@
 -- A rule tried with the values found for its variables: it is chosen if all are found, its pure conditions are met and its points-to atoms
 -- take free records; otherwise a plain rule set leaves no way to choose it.
-use mathlib.Core.{Bool.Bool, Bool.true, Bool.false, Bool.false≢true, Path.◌≡◌, Path.refl, Path.sym, Path.ap, Path.◌∙◌, Path.subst, Logic.◌≢◌, Logic.by_cases}
+use mathlib.Core.{Path.◌≡◌, Path.refl, Path.sym, Path.ap, Path.◌∙◌, Path.subst, Logic.◌≢◌, Logic.by_cases}
 use mathlib.Core.List.Memᴰ
 use mathlib.Core.{List.List, List.◌++◌}
 use Prim.Native.Nat.{ℕ, ◌≤◌, ◌<◌}
@@ -9,13 +9,14 @@ use lib.{ListN.length, ListN.get_or, ListN.take, ListN.drop, ListN.length-drop, 
 use Rattle.semantics.specs.RuleSet.{PointsTo, Pure, fixed_values, variables, arity}
 use Rattle.semantics.specs.{Lists.◌among◌, Heap.Heap, Tree.Meets, Tree.asked, Tree.Takes, WalkOutcome.TakesFreely, WalkOutcome.Chosen, Found.Agrees, Found.AllFound}
 use Rattle.semantics.proofs.{WalkChoice.chosen_by, WalkChoice.left_open, WalkChoice.not_met, WalkChoice.not_free}
-use Rattle.words.proofs.Tabulate.{tabulate_in, tabulate_out}
+use Rattle.std.specs.Prelude.{Option}
+use Rattle.words.proofs.{Ranges.option_as, Tabulate.tabulate_in, Tabulate.tabulate_out}
 use Rattle.block.specs.Layout.{pure_as, rule_as, rule_set_read, fixed_in, constants_in, heap_in, arity_in, head_in, head_arity, bound_in, pure_count, pure_place}
 use Rattle.block.specs.Ready.{variables_in}
 use Rattle.block.proofs.{RuleAs.rule_listed, RuleAs.head_arity_is, RuleAs.variables_are, Values.StartsWith, Values.meets_same, Values.asked_same}
 use Rattle.finding.specs.{Values.open_entry, Values.opens, Values.known_in, Values.Counted, Found.FoundIn}
 use Rattle.finding.proofs.{Opens.opens_none, Opens.opens_some, Known.entry_has, Known.open_entry_lem, Known.known_long, Known.known_agrees}
-use Rattle.walk.specs.Taking.{PuresMet, TakesAll, TakesEach}
+use Rattle.walk.specs.Taking.{PuresMet, TakesEach}
 use Rattle.plain.specs.Plain.{RulesReadable, RulePlace}
 use Rattle.plain.proofs.Places.{fixed_fits}
 use Rattle.walk.specs.Walk.{Readable, arguments_in, values_in, ChosenAt, NotChosen, Attempts}
@@ -150,18 +151,6 @@ module _ {given rules heap : List ℕ} (readable : Readable given rules heap) {r
     }
 
     -- so the taking of records decides
-    pub attempts_take : {mask after : ℕ} {ok : Bool} → PuresMet (fixed_in given) rules rule values → TakesEach (fixed_in given) rules rule values heap mask ok after
-        → Attempts given rules rule heap predicate arguments mask values ok after
-    attempts_take met (TakesAll.taken e t) = Attempts.chosen e (chosen_values met t)
-    attempts_take met (TakesAll.stuck e n) = Attempts.nothing e (not_free_values n)
-
--- ---- an attempt's answer
-
-module _ {given rules : List ℕ} {rule : ℕ} {heap : List ℕ} {predicate : ℕ} {arguments : List ℕ} {mask : ℕ} {values : List ℕ} {after : ℕ} where
-  pub attempt_chosen : {ok : Bool} → Attempts given rules rule heap predicate arguments mask values ok after → ok ≡ true → ChosenAt given rules rule heap predicate arguments mask values after
-  attempt_chosen (Attempts.chosen e c) t = c
-  attempt_chosen (Attempts.nothing e n) t = absurd (false≢true (sym e ∙ t))
-
-  pub attempt_nothing : {ok : Bool} → Attempts given rules rule heap predicate arguments mask values ok after → ok ≡ false → NotChosen given rules heap predicate arguments mask (rule_as (fixed_in given) rules rule)
-  attempt_nothing (Attempts.chosen e c) t = absurd (false≢true (sym t ∙ e))
-  attempt_nothing (Attempts.nothing e n) t = n
+    pub attempts_take : (mask : ℕ) (r : Option ℕ) → PuresMet (fixed_in given) rules rule values → TakesEach (fixed_in given) rules rule values heap mask r
+        → Attempts given rules rule heap predicate arguments mask values r
+    attempts_take mask r met t = option_as r not_free_values (λ after taken. chosen_values met taken) t

@@ -1,9 +1,10 @@
 -- The verdict from the walk of the query: fits, if the walk ends with every record marked.
-use mathlib.Core.{Bool.Bool, Bool.true, Bool.false, Path.◌≡◌, Path.refl, Path.sym, Path.ap, Path.◌∙◌, Path.subst, List.List, Logic.◌≢◌}
+use mathlib.Core.{Path.◌≡◌, Path.refl, Path.sym, Path.ap, Path.◌∙◌, Path.subst, List.List, Logic.◌≢◌}
 use mathlib.Core.{Option.Option, Option.some, Option.none-ne-some, Option.some-injective}
 use Prim.Native.Nat.{ℕ, ◌-◌, ◌^◌, ◌<◌}
 use native.Mathlib.Omega.{arith}
 use lib.ListN.{length, get_or, take}
+use Rattle.std.specs.Prelude.{Option as Result, None, Some}
 use Rattle.semantics.specs.{Lists.◌among◌, Reader.accepted, Refusals.book_not_plain, Walk.refusal_walk_reply, Formats.ladder, Formats.WellFormedInput, Plain.Plain, Walk.Walks, Heap.whole_of, WalkOutcome.WalkOutcome, declared.WalkReply.WalkReply}
 use Rattle.semantics.proofs.{Coding.spot, FormatsFacts.ladder_values, WalkVerdict.Ends, WalkVerdict.outcome_walks}
 use Rattle.block.specs.Layout.{input_in, rule_set_as, rule_set_read, fixed_in, constants_in, heap_in, rule_set_size, predicate_count, arity_in, record_count, query_predicate, query_values}
@@ -42,26 +43,25 @@ module _ (rules heap query : List ℕ) (h : WellFormedInput (input_in rules heap
   counted = h.counted ∙ arity_is (fixed_in query) (constants_in query) rules (query_predicate query) named
 
   module _ (plain : Plain (rule_set_read query rules)) {arguments : List ℕ} (given : take (length (query_values query)) arguments ≡ query_values query) {p : ℕ} (is-predicate : p ≡ query_predicate query)
-      {ok : Bool} {mask fuel : ℕ} (walked : WalksFrom query rules heap fuel p arguments 0 ok mask) (enough : 16 < fuel) where
-    top : WalkOutcome (rule_set_read query rules) (heap_in heap) fuel (query_predicate query) (query_values query) 0 (answer ok mask)
+      {r : Result ℕ} {fuel : ℕ} (walked : WalksFrom query rules heap fuel p arguments 0 r) (enough : 16 < fuel) where
+    top : WalkOutcome (rule_set_read query rules) (heap_in heap) fuel (query_predicate query) (query_values query) 0 (answer r)
     top =
-        subst (λ (vs : List ℕ). WalkOutcome (rule_set_read query rules) (heap_in heap) fuel (query_predicate query) vs 0 (answer ok mask)) (ap (λ (n : ℕ). take n arguments) (sym counted) ∙ given)
-        (subst (λ (q : ℕ). WalkOutcome (rule_set_read query rules) (heap_in heap) fuel q (arguments_in rules q arguments) 0 (answer ok mask)) is-predicate walked.outcome)
+        subst (λ (vs : List ℕ). WalkOutcome (rule_set_read query rules) (heap_in heap) fuel (query_predicate query) vs 0 (answer r)) (ap (λ (n : ℕ). take n arguments) (sym counted) ∙ given)
+        (subst (λ (q : ℕ). WalkOutcome (rule_set_read query rules) (heap_in heap) fuel q (arguments_in rules q arguments) 0 (answer r)) is-predicate walked.outcome)
 
-    ends : {verdict : ℕ} → Ends (heap_in heap) (answer ok mask) verdict → Walks (input_in rules heap query) (record { refusal = 0; verdict = verdict })
+    ends : {verdict : ℕ} → Ends (heap_in heap) (answer r) verdict → Walks (input_in rules heap query) (record { refusal = 0; verdict = verdict })
     unfolding input_in
     ends e = outcome_walks (input_in rules heap query) h plain fuel (omega (arith, h.valid.heap_formed.records_few)) top e
 
-    pub verdict_fits : ok ≡ true → mask ≡ 2 ^ record_count heap - 1 → Walks (input_in rules heap query) (record { refusal = 0; verdict = 1 })
-    verdict_fits e m = ends (Ends.whole (ap (λ (b : Bool). answer b mask) e ∙ ap {B = Option ℕ} some (m ∙ ap (λ (n : ℕ). 2 ^ n - 1) (sym (heap_count heap)))) refl)
+    pub verdict_fits : {mask : ℕ} → r ≡ Some mask → mask ≡ 2 ^ record_count heap - 1 → Walks (input_in rules heap query) (record { refusal = 0; verdict = 1 })
+    verdict_fits e m = ends (Ends.whole (ap answer e ∙ ap {B = Option ℕ} some (m ∙ ap (λ (n : ℕ). 2 ^ n - 1) (sym (heap_count heap)))) refl)
 
-    pub verdict_part : ok ≡ true → mask ≢ 2 ^ record_count heap - 1 → Walks (input_in rules heap query) (record { refusal = 0; verdict = 0 })
-    verdict_part e n =
+    pub verdict_part : {mask : ℕ} → r ≡ Some mask → mask ≢ 2 ^ record_count heap - 1 → Walks (input_in rules heap query) (record { refusal = 0; verdict = 0 })
+    verdict_part {mask} e n =
         ends
         (Ends.not_whole
-        (λ q.
-        n (some-injective mask (whole_of (heap_in heap)) (sym (ap (λ (b : Bool). answer b mask) e) ∙ q) ∙ ap (λ (k : ℕ). 2 ^ k - 1) (heap_count heap)))
+        (λ q. n (some-injective mask (whole_of (heap_in heap)) (sym (ap answer e) ∙ q) ∙ ap (λ (k : ℕ). 2 ^ k - 1) (heap_count heap)))
         refl)
 
-    pub verdict_none : ok ≡ false → Walks (input_in rules heap query) (record { refusal = 0; verdict = 0 })
-    verdict_none e = ends (Ends.not_whole (λ q. none-ne-some (whole_of (heap_in heap)) (sym (ap (λ (b : Bool). answer b mask) e) ∙ q)) refl)
+    pub verdict_none : r ≡ None → Walks (input_in rules heap query) (record { refusal = 0; verdict = 0 })
+    verdict_none e = ends (Ends.not_whole (λ q. none-ne-some (whole_of (heap_in heap)) (sym (ap answer e) ∙ q)) refl)

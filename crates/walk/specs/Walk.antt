@@ -1,6 +1,6 @@
 -- The walk over the decoded blocks: what is asked of them, the choice of a rule, its calls, and what comes of a predicate.
-use mathlib.Core.{Bool.Bool, Bool.true, Bool.false, List.List, Option.Option, Option.none, Option.some, Path.◌≡◌}
-use Rattle.std.specs.Prelude.{ℕ, length, take}
+use mathlib.Core.{List.List, Option.Option as Outcome, Option.none, Option.some, Path.◌≡◌}
+use Rattle.std.specs.Prelude.{ℕ, length, take, Option, None, Some, MatchOption}
 use Rattle.semantics.specs.{Heap.WellFormedHeap, RuleSet.Rule, Tree.values_of, Plain.Plain}
 use Rattle.semantics.specs.WalkOutcome.{WalkOutcome, Chosen, Choosable}
 use Rattle.block.specs.Layout.{rule_as, call_as, rule_set_read, fixed_in, heap_in, arity_in, call_place, call_predicate, rule_set_size}
@@ -37,20 +37,17 @@ abbrev pub NotChosen : (given rules heap : List ℕ) → ℕ → List ℕ → �
 NotChosen given rules heap predicate arguments mask rule =
     Plain (rule_set_read given rules) → ¬ Choosable (rule_set_read given rules) (heap_in heap) mask predicate (arguments_in rules predicate arguments) rule
 
--- One rule was tried.
-pub data Attempts (given rules : List ℕ) (rule : ℕ) (heap : List ℕ) (predicate : ℕ) (arguments : List ℕ) (mask : ℕ) (values : List ℕ) (ok : Bool) (after : ℕ)
-    : Type 0 where
-  chosen : ok ≡ true → ChosenAt given rules rule heap predicate arguments mask values after
-      → Attempts given rules rule heap predicate arguments mask values ok after
-  nothing : ok ≡ false → NotChosen given rules heap predicate arguments mask (rule_as (fixed_in given) rules rule)
-      → Attempts given rules rule heap predicate arguments mask values ok after
+-- One rule was tried: it is chosen, or cannot be.
+abbrev pub Attempts : (given rules : List ℕ) → ℕ → List ℕ → ℕ → List ℕ → ℕ → List ℕ → Option ℕ → Type 0
+Attempts given rules rule heap predicate arguments mask values r =
+    MatchOption r (NotChosen given rules heap predicate arguments mask (rule_as (fixed_in given) rules rule))
+    (ChosenAt given rules rule heap predicate arguments mask values)
 
 -- A rule is chosen, or none can be.
-pub data Chooses (given rules heap : List ℕ) (predicate : ℕ) (arguments : List ℕ) (mask : ℕ) (values : List ℕ) (r : Choice) : Type 0 where
-  chosen : r.ok ≡ true → ChosenAt given rules r.rule heap predicate arguments mask values r.mask
-      → Chooses given rules heap predicate arguments mask values r
-  nothing : r.ok ≡ false → ((rule : Rule) → NotChosen given rules heap predicate arguments mask rule)
-      → Chooses given rules heap predicate arguments mask values r
+abbrev pub Chooses : (given rules heap : List ℕ) → ℕ → List ℕ → ℕ → List ℕ → Option Choice → Type 0
+Chooses given rules heap predicate arguments mask values r =
+    MatchOption r ((rule : Rule) → NotChosen given rules heap predicate arguments mask rule)
+    (λ choice. ChosenAt given rules choice.rule heap predicate arguments mask values choice.mask)
 
 -- ---- calls
 
@@ -61,10 +58,11 @@ pub record CallsWith (given rules : List ℕ) (rule c : ℕ) (values arguments :
 
 -- ---- a predicate
 
-abbrev pub answer : Bool → ℕ → Option ℕ
-answer true mask = some mask
-answer false mask = none
+-- The definition's answer.
+abbrev pub answer : Option ℕ → Outcome ℕ
+answer (Some mask) = some mask
+answer None = none
 
 -- What the walk of a predicate from a mask gives.
-pub record WalksFrom (given rules heap : List ℕ) (fuel predicate : ℕ) (arguments : List ℕ) (mask : ℕ) (ok : Bool) (after : ℕ) : Type 0 where
-  pub outcome : WalkOutcome (rule_set_read given rules) (heap_in heap) fuel predicate (arguments_in rules predicate arguments) mask (answer ok after)
+pub record WalksFrom (given rules heap : List ℕ) (fuel predicate : ℕ) (arguments : List ℕ) (mask : ℕ) (r : Option ℕ) : Type 0 where
+  pub outcome : WalkOutcome (rule_set_read given rules) (heap_in heap) fuel predicate (arguments_in rules predicate arguments) mask (answer r)

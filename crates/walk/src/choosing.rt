@@ -5,14 +5,13 @@ ghost use Rattle.finding.specs.Values.{Counted};
 ghost use Rattle.plain.specs.Plain.{RulePlace};
 ghost use Rattle.walk.specs.Walk.{Readable, Attempts, Chooses};
 
+use super::Choice;
 use super::taking::{pures_hold, take};
-use super::{Choice, Taken};
 use block::{HeapBlock, QueryBlock, RuleBlock, head, rule_count, rule_place};
 use finding::find;
 use finding::values::Values;
-use words::wide;
 
-// Tries a rule: its values found, its pure conditions met, its records free.
+// Tries a rule: its values found, its pure conditions met, its records free. The mask of all records taken then.
 fn attempt(
     rules: &RuleBlock,
     rule: usize,
@@ -22,19 +21,18 @@ fn attempt(
     mask: u16,
     values: &mut Values,
     given: &QueryBlock,
-) -> Taken
+) -> Option<u16>
     requires { Readable given.now rules.now heap.now × RulePlace given.now rules.now rule × Counted arguments.now 0 }
-    ensures { Attempts given.now rules.now rule heap.now predicate arguments.now mask values.new result.ok result.mask }
+    ensures { Attempts given.now rules.now rule heap.now predicate arguments.now mask values.new result }
 {
-    if wide(head(rules, rule)) == predicate {
-        *values = *arguments;
-        if find(rules, rule, heap, values, given) == 0 {
-            if pures_hold(rules, rule, values, given) {
-                return take(rules, rule, values, heap, mask, given);
-            }
-        }
+    if usize::from(head(rules, rule)) != predicate {
+        return None;
     }
-    Taken { ok: false, mask }
+    *values = *arguments;
+    if find(rules, rule, heap, values, given) != 0 || !pures_hold(rules, rule, values, given) {
+        return None;
+    }
+    take(rules, rule, values, heap, mask, given)
 }
 
 // The first rule that can be unfolded for a predicate with its arguments, where the records of the mask are taken; and the values of its
@@ -47,27 +45,16 @@ pub fn choose(
     mask: u16,
     values: &mut Values,
     given: &QueryBlock,
-) -> Choice
+) -> Option<Choice>
     requires { Readable given.now rules.now heap.now × (predicate < predicate_count rules.now) × Counted arguments.now 0 }
     ensures { Chooses given.now rules.now heap.now predicate arguments.now mask values.new result }
 {
     let count = rule_count(rules);
-    let mut r = 0;
-    while r < count {
+    for r in 0..count {
         let rule = rule_place(r);
-        let tried = attempt(rules, rule, heap, predicate, arguments, mask, values, given);
-        if tried.ok {
-            return Choice {
-                ok: true,
-                rule,
-                mask: tried.mask,
-            };
+        if let Some(after) = attempt(rules, rule, heap, predicate, arguments, mask, values, given) {
+            return Some(Choice { rule, mask: after });
         }
-        r += 1;
     }
-    Choice {
-        ok: false,
-        rule: 0,
-        mask,
-    }
+    None
 }

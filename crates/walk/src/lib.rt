@@ -9,6 +9,7 @@ mod unfolding;
 
 ghost use Rattle.std.specs.Prelude.{Bool, ◌≡◌, ◌-◌, ◌^◌, ◌≤◌, length, take};
 ghost use Rattle.semantics.specs.Formats.{WellFormedInput};
+ghost use Rattle.semantics.specs.Numbered.{number_of};
 ghost use Rattle.semantics.specs.Plain.{Plain};
 ghost use Rattle.semantics.specs.Walk.{refusal_walk_reply, Walks, Walked};
 ghost use Rattle.words.specs.Told.{Told};
@@ -18,25 +19,14 @@ ghost use Rattle.plain.specs.Plain.{ConstantsFit};
 
 use block::heap::{query_predicate, query_values, record_count};
 use block::{HEAP_SIZE, HeapBlock, QUERY_SIZE, QueryBlock, RULE_SET_SIZE, RuleBlock};
-use finding::records::long;
 use finding::values::Values;
-use formats::Ladder;
 use plain::plain;
-use semantics::{NOT_PLAIN, WalkReply};
+use semantics::{Refusal, WalkReply};
 use unfolding::descend;
-use words::wide;
 
-// Whether what was asked for could be had with free records alone, and the mask of all records taken then.
-#[derive(Clone, Copy)]
-pub struct Taken {
-    pub ok: bool,
-    pub mask: u16,
-}
-
-// A rule by its place, if there is one, and the mask once its points-to atoms have taken their records.
+// A rule by its place, and the mask of all records taken once its points-to atoms have taken theirs.
 #[derive(Clone, Copy)]
 pub struct Choice {
-    pub ok: bool,
     pub rule: usize,
     pub mask: u16,
 }
@@ -45,11 +35,11 @@ pub struct Choice {
 const FUEL: usize = 17;
 
 // The reply of a refusal: the other number is 0.
-fn refuse(n: u64) -> WalkReply
-    ensures { result ≡ refusal_walk_reply n }
+fn refuse(refusal: Refusal) -> WalkReply
+    ensures { result ≡ refusal_walk_reply (number_of refusal) }
 {
     WalkReply {
-        refusal: n,
+        refusal: u64::from(refusal),
         verdict: 0,
     }
 }
@@ -60,10 +50,8 @@ fn arguments_of(given: &[u32]) -> Values
     ensures { (take (length given.now) result ≡ given.now) × Counted result 0 }
 {
     let mut arguments = [0u64; 8];
-    let mut i = 0;
-    while i < given.len() {
-        arguments[i] = long(given[i]);
-        i += 1;
+    for (i, value) in given.iter().enumerate() {
+        arguments[i] = u64::from(*value);
     }
     arguments
 }
@@ -73,8 +61,7 @@ fn all_taken(records: usize, mask: u16) -> bool
     requires { records ≤ 16 }
     ensures { Told result (mask ≡ 2 ^ records - 1) }
 {
-    let one: u32 = 1;
-    mask as u32 + 1 == one << records
+    u32::from(mask) + 1 == 1 << records
 }
 
 // The verdict for a plain rule set: whether the query unfolds to a tree that takes every record.
@@ -83,14 +70,11 @@ fn verdict(rules: &RuleBlock, heap: &HeapBlock, query: &QueryBlock) -> u64
     ensures { Walks (input_in rules.now heap.now query.now) (record { refusal = 0; verdict = result }) }
 {
     let arguments = arguments_of(query_values(query));
-    let predicate = wide(query_predicate(query));
-    let top = descend(rules, heap, predicate, &arguments, 0, FUEL, query);
-    if top.ok {
-        if all_taken(record_count(heap), top.mask) {
-            return 1;
-        }
+    let predicate = usize::from(query_predicate(query));
+    match descend(rules, heap, predicate, &arguments, 0, FUEL, query) {
+        Some(mask) if all_taken(record_count(heap), mask) => 1,
+        _ => 0,
     }
-    0
 }
 
 // The answer to what was read: a rule set that is not plain is refused, and for a plain one there is a verdict.
@@ -99,12 +83,13 @@ fn respond(rules: &RuleBlock, heap: &HeapBlock, query: &QueryBlock) -> WalkReply
     ensures { Walks (input_in rules.now heap.now query.now) result }
 {
     if plain(rules, query) {
-        return WalkReply {
+        WalkReply {
             refusal: 0,
             verdict: verdict(rules, heap, query),
-        };
+        }
+    } else {
+        refuse(Refusal::BookNotPlain)
     }
-    refuse(NOT_PLAIN)
 }
 
 // The walk: what the reader refuses, or the answer.
@@ -115,7 +100,7 @@ pub fn walk(book: &[u8], snapshot: &[u8], question: &[u8]) -> WalkReply
     let mut heap = [0u32; HEAP_SIZE];
     let mut query = [0u32; QUERY_SIZE];
     match formats::read(book, snapshot, question, &mut rules, &mut heap, &mut query) {
-        Ladder::Refused(n) => refuse(n as u64),
-        Ladder::Accepted => respond(&rules, &heap, &query),
+        Ok(()) => respond(&rules, &heap, &query),
+        Err(refusal) => refuse(refusal),
     }
 }

@@ -8,11 +8,10 @@ ghost use Rattle.block.specs.Layout.{term_as, pure_as, atom_as, constant_count, 
 ghost use Rattle.block.specs.Ready.{FormedRead, Terms};
 ghost use Rattle.walk.specs.Taking.{PuresMet, TakesOne, TakesEach};
 
-use super::Taken;
-use block::heap::{record_count, record_size};
+use block::heap::record_size;
 use block::{
-    HeapBlock, QueryBlock, RuleBlock, atom_address, atom_count, atom_fields, atom_size, pure_count,
-    pure_kind, pure_left, pure_right,
+    HeapBlock, Kind, QueryBlock, RuleBlock, atom_address, atom_count, atom_fields, atom_size,
+    kind_of, pure_count, pure_left, pure_right,
 };
 use finding::records::{field, record_at};
 use finding::values::{Values, entry, variable};
@@ -25,10 +24,11 @@ fn pure_holds(rules: &RuleBlock, rule: usize, k: usize, values: &Values, given: 
 {
     let left = entry(values, pure_left(rules, rule, k), given);
     let right = entry(values, pure_right(rules, rule, k), given);
-    if pure_kind(rules, rule, k) == 0 {
-        return left == right;
+    if kind_of(rules, rule, k) == Kind::Equal {
+        left == right
+    } else {
+        left != right
     }
-    left != right
 }
 
 // Whether all pure conditions hold.
@@ -36,16 +36,7 @@ pub fn pures_hold(rules: &RuleBlock, rule: usize, values: &Values, given: &Query
     requires { FormedRead given.now rules.now rule × (constant_count given.now ≤ 8) }
     ensures { Told result (PuresMet (fixed_in given.now) rules.now rule values.now) }
 {
-    let count = pure_count(rules, rule);
-    let mut k = 0;
-    while k < count {
-        if pure_holds(rules, rule, k, values, given) {
-            k += 1;
-        } else {
-            return false;
-        }
-    }
-    true
+    (0..pure_count(rules, rule)).all(|k| pure_holds(rules, rule, k, values, given))
 }
 
 // Whether the fields of record i, so many, are the values of so many terms.
@@ -61,15 +52,7 @@ fn fields_match(
     requires { Terms rules.now terms count × (i < 16) × (count ≤ 4) × (constant_count given.now ≤ 8) }
     ensures { Told result (entries heap.now (record_place i + 2) count ≡ values_of values.now (map (term_as (fixed_in given.now)) (entries rules.now terms count))) }
 {
-    let mut j = 0;
-    while j < count {
-        if field(heap, i, j) == entry(values, rules[terms + j], given) {
-            j += 1;
-        } else {
-            return false;
-        }
-    }
-    true
+    (0..count).all(|j| field(heap, i, j) == entry(values, rules[terms + j], given))
 }
 
 // Whether record i, which is at the address of points-to atom g, is the one that the atom asks for.
@@ -86,13 +69,11 @@ fn record_matches(
     ensures { Told result (record_in heap.now (record_place i) ≡ asked values.now (atom_as (fixed_in given.now) rules.now (atom_place rule g))) }
 {
     let count = atom_size(rules, rule, g);
-    if record_size(heap, i) != count {
-        return false;
-    }
-    fields_match(rules, atom_fields(rule, g), values, heap, i, count, given)
+    record_size(heap, i) == count
+        && fields_match(rules, atom_fields(rule, g), values, heap, i, count, given)
 }
 
-// Takes the record that points-to atom g asks for, if it is free.
+// Takes the record that points-to atom g asks for, if it is free. The mask of all records taken then.
 fn take_record(
     rules: &RuleBlock,
     rule: usize,
@@ -101,28 +82,19 @@ fn take_record(
     heap: &HeapBlock,
     mask: u16,
     given: &QueryBlock,
-) -> Taken
+) -> Option<u16>
     requires { FormedRead given.now rules.now rule × (g < atom_count rules.now rule) × WellFormedHeap (heap_in heap.now) × (constant_count given.now ≤ 8) }
-    ensures { TakesOne (fixed_in given.now) rules.now rule g values.now heap.now mask result.ok result.mask }
+    ensures { TakesOne (fixed_in given.now) rules.now rule g values.now heap.now mask result }
 {
-    let i = record_at(heap, variable(values, atom_address(rules, rule, g)));
-    if record_count(heap) <= i {
-        return Taken { ok: false, mask };
-    }
+    let i = record_at(heap, variable(values, atom_address(rules, rule, g)))?;
     let here = bit(i);
-    if shares(here, mask) {
-        return Taken { ok: false, mask };
+    if shares(here, mask) || !record_matches(rules, rule, g, values, heap, i, given) {
+        return None;
     }
-    if record_matches(rules, rule, g, values, heap, i, given) {
-        return Taken {
-            ok: true,
-            mask: here + mask,
-        };
-    }
-    Taken { ok: false, mask }
+    Some(here + mask)
 }
 
-// Takes a free record for each points-to atom.
+// Takes a free record for each points-to atom. The mask of all records taken then.
 pub fn take(
     rules: &RuleBlock,
     rule: usize,
@@ -130,24 +102,14 @@ pub fn take(
     heap: &HeapBlock,
     mask: u16,
     given: &QueryBlock,
-) -> Taken
+) -> Option<u16>
     requires { FormedRead given.now rules.now rule × WellFormedHeap (heap_in heap.now) × (constant_count given.now ≤ 8) }
-    ensures { TakesEach (fixed_in given.now) rules.now rule values.now heap.now mask result.ok result.mask }
+    ensures { TakesEach (fixed_in given.now) rules.now rule values.now heap.now mask result }
 {
     let count = atom_count(rules, rule);
     let mut after = mask;
-    let mut g = 0;
-    while g < count {
-        let turn = take_record(rules, rule, g, values, heap, after, given);
-        if turn.ok {
-            after = turn.mask;
-        } else {
-            return turn;
-        }
-        g += 1;
+    for g in 0..count {
+        after = take_record(rules, rule, g, values, heap, after, given)?;
     }
-    Taken {
-        ok: true,
-        mask: after,
-    }
+    Some(after)
 }

@@ -6,11 +6,9 @@ ghost use Rattle.finding.specs.Values.{Counted};
 ghost use Rattle.plain.specs.Plain.{RulesReadable, RulePlace};
 ghost use Rattle.walk.specs.Walk.{Readable, CallsWith, WalksFrom};
 
-use super::Taken;
 use super::choosing::choose;
 use block::{HeapBlock, QueryBlock, RuleBlock, call_arity, call_count, call_predicate, call_term};
 use finding::values::{Values, entry};
-use words::wide;
 
 // The arguments of call c of a rule whose variables have these values; entries past the last are 0.
 fn call_arguments(
@@ -25,16 +23,14 @@ fn call_arguments(
 {
     let count = call_arity(rules, rule, c);
     let mut arguments = [0u64; 8];
-    let mut j = 0;
-    while j < count {
+    for j in 0..count {
         arguments[j] = entry(values, call_term(rules, rule, c, j), given);
-        j += 1;
     }
     arguments
 }
 
-// Unfolds a predicate with its arguments, where the records of the mask are taken. `fuel` is more than the records that are free: a rule
-// with calls takes one, so it is never short.
+// Unfolds a predicate with its arguments, where the records of the mask are taken. The mask of all records taken then. `fuel` is more than
+// the records that are free: a rule with calls takes one, so it is never short.
 pub fn descend(
     rules: &RuleBlock,
     heap: &HeapBlock,
@@ -43,35 +39,22 @@ pub fn descend(
     mask: u16,
     fuel: usize,
     given: &QueryBlock,
-) -> Taken
+) -> Option<u16>
     requires { Readable given.now rules.now heap.now × (predicate < predicate_count rules.now) × Counted arguments.now 0 }
-    ensures { WalksFrom given.now rules.now heap.now fuel predicate arguments.now mask result.ok result.mask }
+    ensures { WalksFrom given.now rules.now heap.now fuel predicate arguments.now mask result }
 {
     if fuel == 0 {
-        return Taken { ok: false, mask };
+        return None;
     }
     let mut values = [0u64; 8];
-    let choice = choose(rules, heap, predicate, arguments, mask, &mut values, given);
-    if choice.ok {
-        let rule = choice.rule;
-        let count = call_count(rules, rule);
-        let mut after = choice.mask;
-        let mut c = 0;
-        while c < count {
-            let called = wide(call_predicate(rules, rule, c));
-            let below = call_arguments(rules, rule, c, &values, given);
-            let next = descend(rules, heap, called, &below, after, fuel - 1, given);
-            if next.ok {
-                after = next.mask;
-            } else {
-                return next;
-            }
-            c += 1;
-        }
-        return Taken {
-            ok: true,
-            mask: after,
-        };
+    let choice = choose(rules, heap, predicate, arguments, mask, &mut values, given)?;
+    let rule = choice.rule;
+    let count = call_count(rules, rule);
+    let mut after = choice.mask;
+    for c in 0..count {
+        let called = usize::from(call_predicate(rules, rule, c));
+        let below = call_arguments(rules, rule, c, &values, given);
+        after = descend(rules, heap, called, &below, after, fuel - 1, given)?;
     }
-    Taken { ok: false, mask }
+    Some(after)
 }

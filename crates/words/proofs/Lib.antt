@@ -2,3 +2,4 @@ pub mod Answers
 pub mod Digits
 pub mod Disjoint
 pub mod Tabulate
+pub mod Ranges

@@ -1,9 +1,11 @@
 -- Count and values make the constants.
-use mathlib.Core.Path.{refl}
-use Rattle.book.proofs.Whole.{constants_fill}
+use Rattle.book.proofs.Whole.{no_constant_count, constants_fill}
 use Rattle.book.proofs.constants.Goals as goal
+
+pub returns-in_err-count : goal.returns-in_err-count
+returns-in_err-count c = no_constant_count c.from_residual.ensures.1 c.in_err-count.ensures.reads
 
 pub returns : goal.returns
 returns c =
-    let w = c.wide-k in
-    constants_fill c.requires c.ranged-e.ensures w.ensures.0 refl c.values.ensures
+    let count = c.in_ok-count.ensures in
+    constants_fill _ c.requires count.reads count.within (rw c.from.ensures) (rw c.from-2.ensures at c.values.ensures)

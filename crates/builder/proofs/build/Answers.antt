@@ -1,13 +1,8 @@
 -- `build` takes the steps of the builder one after the other; each keeps the space's length.
 use mathlib.Core.Path.{◌∙◌}
 use native.Mathlib.Omega.{arith}
-use Rattle.builder.proofs.Building.{cleared_marks, lent_cleared, plan_numberable, named_lined, lines_inside, builds}
+use Rattle.builder.proofs.Building.{plan_numberable, named_lined, lines_inside, builds}
 use Rattle.builder.proofs.build.Goals as goal
-
-pub prepare-requires : goal.prepare-requires
-prepare-requires c =
-    let e = c.clear_part in
-    (lent_cleared c.requires e.auto.words, cleared_marks c.args.space.now e.new.words c.args.at e.ensures)
 
 pub gather-requires : goal.gather-requires
 gather-requires c =

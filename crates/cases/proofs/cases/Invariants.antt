@@ -1,9 +1,6 @@
--- A case ends within the input and after the place where it starts, or there is no next one.
-use Rattle.std.proofs.Common.{◌-◌, ◌≤◌, length}
+-- A case takes at least a byte.
+use Rattle.std.proofs.Common.{length}
 use Rattle.cases.proofs.cases.Given as goal
 
-abbrev pub invariant-loop-at : goal.invariant-loop-at
-invariant-loop-at g l = l.at ≤ length l.input
-
-abbrev pub decreases-loop-at : goal.decreases-loop-at
-decreases-loop-at g l = length l.input - l.at
+abbrev pub decreases-loop-rest : goal.decreases-loop-rest
+decreases-loop-rest g l = length l.rest

@@ -13,4 +13,4 @@ overflow_add-result c =
     omega (arith, check_refusal_most c.args.book.now c.args.snapshot.now c.args.question.now _ ensured, taken_most c.args.book.now c.args.snapshot.now c.args.question.now _ ensured)
 
 pub returns : goal.returns
-returns c = desk_checked c.args.book.now c.args.snapshot.now c.args.question.now c.load-n.ensures c.check-reply.ensures
+returns c = desk_checked c.args.book.now c.args.snapshot.now c.args.question.now c.load.ensures c.check-reply.ensures

@@ -1,26 +1,21 @@
 -- `check_for` meets its contract: what the reader refuses is refused, and of what it accepts `takes` tells whether the words are a
 -- certificate.
 use mathlib.Core.Path.{refl}
-use Rattle.semantics.specs.Contract.{Checks}
+use Rattle.words.proofs.Answers.{told_as}
 use Rattle.formats.proofs.Answers.{well_formed, block_long, unread, answered}
-use Rattle.engine.proofs.Answers.{few_records, chosen_taken}
+use Rattle.engine.proofs.Answers.{few_records, chosen_taken, checks_told}
 use Rattle.engine.proofs.check_for.Goals as goal
 
-pub chosen-of-requires : goal.chosen-of-requires
-chosen-of-requires c =
-    few_records _ _ _ (well_formed c.read.ensures c.in-Accepted.is)
+pub chosen-part-requires : goal.chosen-part-requires
+chosen-part-requires c = few_records _ _ _ (well_formed c.read-read.ensures c.in_default.is)
 
-pub takes-requires : goal.takes-requires
-takes-requires c =
-    (well_formed c.read.ensures c.in-Accepted.is, block_long c.read.ensures c.in-Accepted.is)
+pub takes-taken-requires : goal.takes-taken-requires
+takes-taken-requires c = (well_formed c.read-read.ensures c.in_default.is, block_long c.read-read.ensures c.in_default.is)
 
-pub returns-then-takes : goal.returns-then-takes
-returns-then-takes c =
-    answered c.read.ensures c.in-Accepted.is tt (Checks.takes ((chosen_taken c.args.whole c.args.part _ _ _ _ c.chosen-of.ensures).0 (c.takes.ensures.so c.if-takes.true)) refl)
+pub returns-in-Err : goal.returns-in-Err
+returns-in-Err c = unread c.read-read.ensures c.in-Err.is (rw c.from.ensures refl)
 
-pub returns-in-Refused : goal.returns-in-Refused
-returns-in-Refused c = unread c.read.ensures c.in-Refused.is refl
-
-pub returns-else-takes : goal.returns-else-takes
-returns-else-takes c =
-    answered c.read.ensures c.in-Accepted.is tt (Checks.takes_not (λ k. c.takes.ensures.not_so c.if-takes.false ((chosen_taken c.args.whole c.args.part _ _ _ _ c.chosen-of.ensures).1 k)) refl)
+pub returns : goal.returns
+returns c =
+    let same = chosen_taken c.args.part _ _ _ _ c.chosen-part.ensures in
+    answered c.read-read.ensures c.in_default.is tt (checks_told _ (told_as same.0 same.1 c.takes-taken.ensures) c.from-2.ensures)

@@ -6,20 +6,20 @@ use Rattle.engine.proofs.decide_for.Goals as goal
 
 pub answer-requires : goal.answer-requires
 answer-requires c = (
-  well_formed c.read.ensures c.in-Accepted.is,
-  block_long c.read.ensures c.in-Accepted.is,
-  c.lends.ensures.so c.if-lends.true,
+  well_formed c.read-read.ensures c.in_default.is,
+  block_long c.read-read.ensures c.in_default.is,
+  c.lends.ensures.so c.if-not-lends.false,
 )
 
-pub returns-then-lends : goal.returns-then-lends
-returns-then-lends c =
-    answered c.read.ensures c.in-Accepted.is (c.lends.ensures.so c.if-lends.true) c.answer.ensures
+pub returns-in-Err : goal.returns-in-Err
+returns-in-Err c =
+    unread c.read-read.ensures c.in-Err.is (record { is_reply = c.refuse.ensures; same_table = refl; same_space = refl })
 
-pub returns-in-Refused : goal.returns-in-Refused
-returns-in-Refused c =
-    unread c.read.ensures c.in-Refused.is (record { is_reply = c.refuse.ensures; same_table = refl; same_space = refl })
+pub returns-then-not-lends : goal.returns-then-not-lends
+returns-then-not-lends c =
+    unlent c.read-read.ensures c.in_default.is (c.lends.ensures.not_so c.if-not-lends.true)
+    (record { is_reply = c.refuse-then-not-lends.ensures; same_table = refl; same_space = refl })
 
-pub returns-else-lends : goal.returns-else-lends
-returns-else-lends c =
-    unlent c.read.ensures c.in-Accepted.is (c.lends.ensures.not_so c.if-lends.false)
-    (record { is_reply = c.refuse-in-Accepted.ensures; same_table = refl; same_space = refl })
+pub returns : goal.returns
+returns c =
+    answered c.read-read.ensures c.in_default.is (c.lends.ensures.so c.if-not-lends.false) c.answer.ensures

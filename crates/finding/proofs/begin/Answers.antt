@@ -1,38 +1,26 @@
--- `begin` opens the bound variables one by one; each had a value, since no entry was open.
-use mathlib.Core.Path.{◌≡◌, sym, ◌∙◌}
+-- `begin` opens the bound variables together; each had a value, since no entry was open.
+use mathlib.Core.Path.{◌≡◌, sym, ap, ◌∙◌}
+use mathlib.Core.{List.List}
+use Prim.Native.Nat.{ℕ, ◌+◌, ◌-◌, ◌≤◌}
 use native.Mathlib.Omega.{arith}
-use lib.ListN.{length-set}
-use Rattle.finding.specs.Values.{open_entry}
-use Rattle.finding.proofs.Opens.{opens_none, opens_more, opened_none, opened_more}
+use lib.ListN.{length, replicate}
+use borrow.Rule.Slice.PartMut.{mid_len}
+use Rattle.finding.specs.{Values.open_entry, Found.Opened}
+use Rattle.finding.proofs.Opens.{opened_from, opened_together, opens_together, length-opened}
 use Rattle.finding.proofs.begin.Goals as goal
-
-pub loop-v-init : goal.loop-v-init
-loop-v-init c =
-    let arity = c.head_arity-arity in (
-      omega arith,
-      omega (arith, arity.ensures.0, c.variable_count-count.ensures),
-      omega (arith, c.requires.0.ready.variables_few, c.variable_count-count.ensures),
-      opened_none arity.result c.args.values.now,
-      record { eight = c.requires.1.eight; is = omega (arith, c.requires.1.is) },
-    )
-
-pub loop-v-preserved : goal.loop-v-preserved
-loop-v-preserved c =
-    let arity = c.head_arity-arity.result in
-    let l = c.loop-v in
-    let known = opens_none c.args.values.now (sym c.requires.1.is) l.v in
-    let more = opens_more l.values l.v (omega (arith, l.invariant.4.eight)) (omega (arith, known, l.invariant.3.later l.v (omega arith))) in (
-      omega arith,
-      omega arith,
-      l.invariant.2,
-      opened_more arity l.v c.args.values.now l.values l.invariant.0 (omega (arith, l.invariant.4.eight)) l.invariant.3,
-      record { eight = length-set l.values l.v open_entry ∙ l.invariant.4.eight; is = omega (arith, more, l.invariant.4.is) },
-    )
 
 pub returns : goal.returns
 returns c =
-    let l = c.loop-v in
-    let count = c.variable_count-count in
-    let arity = c.head_arity-arity in
-    let all : l.v ≡ count.result = omega arith in
-    (rw (← count.ensures, ← arity.ensures.0, ← all) l.invariant.3, rw (← all) l.invariant.4)
+    let arity : ℕ = c.head_arity-arity.result in
+    let count : ℕ = c.variable_count-count.result in
+    let values : List ℕ = c.args.values.now in
+    let inside : arity + (count - arity) ≤ length values = omega (arith, c.requires.0.ready.variables_few, c.variable_count-count.ensures, c.head_arity-arity.ensures, c.requires.1.eight) in
+    let sum : arity + (count - arity) ≡ count = omega (arith, c.variable_count-count.ensures, c.head_arity-arity.ensures) in
+    let filled : c.fill.new.self ≡ replicate (count - arity) open_entry = c.fill.ensures.after (λ y h. h) ∙ ap (λ (n : ℕ). replicate n open_entry) (mid_len arity count values (omega (arith, inside))) in
+    let opened : Opened arity count values (opened_from arity (count - arity) values) = rw sum at (opened_together arity (count - arity) values inside) in (
+      rw (filled, ← c.variable_count-count.ensures, ← c.head_arity-arity.ensures.0) opened,
+      rw filled (record {
+        eight = length-opened arity (count - arity) values inside ∙ c.requires.1.eight;
+        is = sym (opens_together arity (count - arity) values (sym c.requires.1.is) inside);
+      }),
+    )

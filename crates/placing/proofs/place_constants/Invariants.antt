@@ -1,11 +1,7 @@
 -- `place_constants` meets its contract: after k turns the first k constants are in positions.
-use Prim.Native.Nat.{◌-◌, ◌≤◌}
-use lib.{ListN.take}
+use Prim.Native.Nat.{◌≤◌}
 use Rattle.placing.specs.Placed.{ConstantsPlaced}
 use Rattle.placing.proofs.place_constants.Given as goal
 
 abbrev pub invariant-loop-k : goal.invariant-loop-k
-invariant-loop-k l = (l.k ≤ l.count) × (l.count ≤ 8) × ConstantsPlaced (take l.n l.domain) l.query l.initial.rules l.rules l.k
-
-abbrev pub decreases-loop-k : goal.decreases-loop-k
-decreases-loop-k l = l.count - l.k
+invariant-loop-k l = (l.k ≤ l.count) × (l.count ≤ 8) × ConstantsPlaced l.domain l.query l.initial.rules l.rules l.k

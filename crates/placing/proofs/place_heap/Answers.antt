@@ -4,7 +4,7 @@ use mathlib.Core.Path.{◌∙◌}
 use lib.{ListN.length-set, Seq.get_or-set_same}
 use Rattle.block.proofs.HeapInBlock.{records_few, fields_few}
 use Rattle.domain.proofs.Values.{value_in}
-use Rattle.placing.proofs.{PlacingHeap.heap_more, PlacingHeap.heap_all, Positions.placeable_some}
+use Rattle.placing.proofs.PlacingHeap.{heap_more, heap_all}
 use Rattle.placing.proofs.place_heap.Goals as goal
 
 pub overflow_cast-count : goal.overflow_cast-count
@@ -27,7 +27,7 @@ place_record-requires c =
       omega arith,
       fields_few c.args.heap.now c.requires.0 l.k (omega arith),
       l.invariant.2.long,
-      placeable_some c.requires.2 (λ v m. value_in c.args.heap.now l.k (omega arith) m),
+      λ v m. c.requires.2 v (value_in c.args.heap.now l.k (omega arith) m),
     )
 
 pub loop-k-preserved : goal.loop-k-preserved

@@ -11,7 +11,7 @@ loop-i-init c = (omega arith, written_none _)
 
 pub loop-i-preserved : goal.loop-i-preserved
 loop-i-preserved c =
-    (omega arith, written_more c.loop-i.invariant.1 (omega (arith, c.requires)) c.long.ensures.0 c.long.ensures.1)
+    (omega arith, written_more c.loop-i.invariant.1 (omega (arith, c.requires)) c.from.ensures (omega (arith, c.from.ensures)))
 
 pub returns : goal.returns
 returns c =

@@ -11,7 +11,7 @@ verdict-requires c = (c.requires.0, c.requires.1, c.requires.2, c.plain.ensures.
 pub returns-then-plain : goal.returns-then-plain
 returns-then-plain c = c.verdict.ensures
 
-pub returns : goal.returns
-returns c =
+pub returns-else-plain : goal.returns-else-plain
+returns-else-plain c =
     let g = c.args in
     refuses g.rules.now g.heap.now g.query.now c.requires.0 (c.plain.ensures.not_so c.if-plain.false) c.refuse.ensures

@@ -21,11 +21,11 @@ pub query_predicate-requires : goal.query_predicate-requires
 query_predicate-requires c =
     omega (arith, predicate_few c.args.rules.now c.args.heap.now c.args.query.now c.requires.0)
 
-pub descend-top-requires : goal.descend-top-requires
-descend-top-requires c =
+pub descend-requires : goal.descend-requires
+descend-requires c =
     let g = c.args in (
       readable g.rules.now g.heap.now g.query.now c.requires.0 c.requires.1 c.requires.2,
-      omega (arith, c.wide-predicate.ensures.0, c.query_predicate.ensures, named g.rules.now g.heap.now g.query.now c.requires.0),
+      omega (arith, c.from-predicate.ensures, c.query_predicate.ensures, named g.rules.now g.heap.now g.query.now c.requires.0),
       c.arguments_of-arguments.ensures.1,
     )
 
@@ -34,22 +34,22 @@ all_taken-requires c =
     let g = c.args in
     omega (arith, c.record_count.ensures.0, records_few g.heap.now (valid g.rules.now g.heap.now g.query.now c.requires.0).heap_formed)
 
-pub returns-then-all_taken : goal.returns-then-all_taken
-returns-then-all_taken c =
+pub returns-in-Some : goal.returns-in-Some
+returns-in-Some c =
     let g = c.args in
     verdict_fits g.rules.now g.heap.now g.query.now c.requires.0 c.requires.3 (rw c.query_values.ensures at c.arguments_of-arguments.ensures.0)
-    (c.wide-predicate.ensures.0 ∙ c.query_predicate.ensures) c.descend-top.ensures (omega arith) c.if-top.true
+    (c.from-predicate.ensures ∙ c.query_predicate.ensures) c.descend.ensures (omega arith) c.in-Some.is
     ((rw c.record_count.ensures.0 at c.all_taken.ensures).so c.if-all_taken.true)
 
-pub returns-else-all_taken : goal.returns-else-all_taken
-returns-else-all_taken c =
+pub returns-in_default : goal.returns-in_default
+returns-in_default c =
     let g = c.args in
     verdict_part g.rules.now g.heap.now g.query.now c.requires.0 c.requires.3 (rw c.query_values.ensures at c.arguments_of-arguments.ensures.0)
-    (c.wide-predicate.ensures.0 ∙ c.query_predicate.ensures) c.descend-top.ensures (omega arith) c.if-top.true
+    (c.from-predicate.ensures ∙ c.query_predicate.ensures) c.descend.ensures (omega arith) c.in-Some.is
     ((rw c.record_count.ensures.0 at c.all_taken.ensures).not_so c.if-all_taken.false)
 
-pub returns-else-top : goal.returns-else-top
-returns-else-top c =
+pub returns-in_default-2 : goal.returns-in_default-2
+returns-in_default-2 c =
     let g = c.args in
     verdict_none g.rules.now g.heap.now g.query.now c.requires.0 c.requires.3 (rw c.query_values.ensures at c.arguments_of-arguments.ensures.0)
-    (c.wide-predicate.ensures.0 ∙ c.query_predicate.ensures) c.descend-top.ensures (omega arith) c.if-top.false
+    (c.from-predicate.ensures ∙ c.query_predicate.ensures) c.descend.ensures (omega arith) c.in_default.is

@@ -7,15 +7,15 @@ use Rattle.walk.proofs.walk.Goals as goal
 pub respond-requires : goal.respond-requires
 respond-requires c =
     let read = c.read.ensures in (
-      well_formed read c.in-Accepted.is,
-      block_long read c.in-Accepted.is,
-      constants_fit _ _ _ _ _ _ (is_accepted (rw c.in-Accepted.is at read)) (λ i. omega (arith, c.shared_slice_known-1.given i))
+      well_formed read c.in-Ok.is,
+      block_long read c.in-Ok.is,
+      constants_fit _ _ _ _ _ _ (is_accepted (rw c.in-Ok.is at read)) (λ i. omega (arith, c.shared_slice_known-1.given i))
           (λ i. omega (arith, c.shared_slice_known-2-1.given i)) (λ i. omega (arith, c.shared_slice_known-3-1.given i)),
     )
 
-pub returns-in-Refused : goal.returns-in-Refused
-returns-in-Refused c = unread c.read.ensures c.in-Refused.is c.refuse.ensures
+pub returns-in-Err : goal.returns-in-Err
+returns-in-Err c = unread c.read.ensures c.in-Err.is c.refuse.ensures
 
-pub returns-in-Accepted : goal.returns-in-Accepted
-returns-in-Accepted c =
-    answered c.read.ensures c.in-Accepted.is tt c.respond.ensures
+pub returns-in-Ok : goal.returns-in-Ok
+returns-in-Ok c =
+    answered c.read.ensures c.in-Ok.is tt c.respond.ensures

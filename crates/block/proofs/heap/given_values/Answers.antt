@@ -10,5 +10,5 @@ use Rattle.block.proofs.heap.given_values.Goals as goal
 pub returns : goal.returns
 returns c =
     let q = c.args.query.now in
-    let n : 3 + (c.wide.result + c.wide-2.result) - 3 ≡ constant_count q + query_count q = omega arith in
+    let n : 3 + (constant_count q + query_count q) - 3 ≡ constant_count q + query_count q = omega arith in
     ap (λ (k : ℕ). take k (drop 3 q)) n ∙ part_entries q 3 (constant_count q + query_count q) (omega arith) ∙ given-row q

@@ -1,21 +1,10 @@
 -- `plan` goes down from the place asked for. Every marked place from i on has its line, and what those lines call is marked; what a place
 -- calls stands before it, so no mark comes too late.
-use Prim.Native.Nat.{suc, ◌-◌, ◌*◌}
-use mathlib.Core.Path.{◌≡◌, refl, sym, ◌∙◌}
+use Prim.Native.Nat.{suc, ◌-◌}
+use mathlib.Core.Path.{◌≡◌, sym, ◌∙◌}
 use native.Mathlib.Omega.{arith}
-use lib.ListN.{length-set}
-use Rattle.builder.proofs.Planning.{planned_start, planned_all, planned_skip, planned_visit}
+use Rattle.builder.proofs.Planning.{planned_all, planned_skip, planned_visit}
 use Rattle.builder.proofs.plan.plan.Goals as goal
-
-pub loop-i-init : goal.loop-i-init
-loop-i-init c =
-    (length-set c.args.space.now (3 * c.args.at) 1 ∙ c.requires.0.three, planned_start c.args.space.now c.requires.1 (omega (arith, c.requires.0.place, c.requires.0.three)), c.requires.2, refl)
-
-pub visit-requires : goal.visit-requires
-visit-requires c =
-    let h = c.requires.0 in
-    let l = c.loop-i in
-    (record { represents = h.represents; place = omega (arith, l.invariant.1.upto, h.place, c.loop-i-test.true); lines = h.lines; three = l.invariant.0 }, l.invariant.2)
 
 pub loop-i-preserved-then-space-i-ne0 : goal.loop-i-preserved-then-space-i-ne0
 loop-i-preserved-then-space-i-ne0 c =
@@ -23,17 +12,16 @@ loop-i-preserved-then-space-i-ne0 c =
     let v = c.visit in
     let e : l.i ≡ suc (l.i - 1) = omega (arith, c.loop-i-test.true) in (
       v.auto.space ∙ l.invariant.0,
-      planned_visit (l.i - 1) l.space (omega (arith, l.invariant.1.upto, c.loop-i-test.true)) (rw e at l.invariant.1) v.new.space
-          (omega (arith, l.invariant.0, l.invariant.1.upto, c.requires.0.place)) v.ensures.0 c.if-space-i-ne0.true,
+      planned_visit (l.i - 1) l.space (omega (arith, l.auto.i, c.loop-i-test.true)) (rw e at l.invariant.1) v.new.space
+          (omega (arith, l.invariant.0, l.auto.i, c.requires.0.place)) v.ensures.0 c.if-space-i-ne0.true,
       v.ensures.1,
-      v.auto.memory ∙ l.invariant.3,
     )
 
 pub loop-i-preserved : goal.loop-i-preserved
 loop-i-preserved c =
     let l = c.loop-i in
     let e : l.i ≡ suc (l.i - 1) = omega (arith, c.loop-i-test.true) in
-    (l.invariant.0, planned_skip (l.i - 1) l.space (omega (arith, l.invariant.1.upto, c.loop-i-test.true)) (rw e at l.invariant.1) c.if-space-i-ne0.false, l.invariant.2, l.invariant.3)
+    (l.invariant.0, planned_skip (l.i - 1) l.space (omega (arith, l.auto.i, c.loop-i-test.true)) (rw e at l.invariant.1) c.if-space-i-ne0.false, l.invariant.2)
 
 pub returns : goal.returns
 returns c =

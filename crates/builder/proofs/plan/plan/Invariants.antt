@@ -9,7 +9,4 @@ use Rattle.builder.proofs.plan.plan.Given as goal
 
 abbrev pub invariant-loop-i : goal.invariant-loop-i
 invariant-loop-i l =
-    (length l.space ≡ 3 * length l.table) × PlannedFrom l.rules l.records l.n l.table l.at l.i l.space × Failed l.rules l.records l.table l.memory × (length l.memory ≡ length l.initial.memory)
-
-abbrev pub decreases-loop-i : goal.decreases-loop-i
-decreases-loop-i l = l.i
+    (length l.space ≡ 3 * length l.table) × PlannedFrom l.rules l.records l.n l.table l.at l.i l.space × Failed l.rules l.records l.table l.memory

@@ -1,11 +1,13 @@
--- `heavy` needs no more than that each rule lies within the block: any answer is right.
+-- `heavy` asks of each call that the rule lies within the block.
+use Prim.Native.Nat.{◌<◌}
 use native.Mathlib.Omega.{arith}
+use Rattle.std.proofs.Common.{rules}
+use Rattle.std.proofs.lemmas.Iterator.{serves_from_Range}
 use Rattle.block.proofs.ReadyBlocks.{ready_of}
 use Rattle.builder.proofs.prepare.heavy.Goals as goal
 
-pub loop-r-init : goal.loop-r-init
-loop-r-init c =
-    omega (arith, c.rule_count-count.ensures.0, (ready_of c.args.rules.now c.args.records.now c.args.n c.requires).rules_few)
-
-pub call_count-requires : goal.call_count-requires
-call_count-requires c = omega (arith, c.rule_place.ensures, c.loop-r.invariant, c.loop-r-test.true)
+pub any-requires-clause-callable : goal.any-requires-clause-callable
+any-requires-clause-callable c =
+    let a = c.args in
+    serves_from_Range (λ x q k. search rules)
+    (λ x low high. let few : x < 16 = omega (arith, high, c.rule_count.ensures.0, (ready_of a.rules.now a.records.now a.n c.requires).rules_few) in (search rules, search rules))

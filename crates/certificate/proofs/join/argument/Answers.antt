@@ -12,7 +12,7 @@ returns-then-j-call_arity c =
     rw (c.position.ensures, c.call_term.ensures)
     (argument_at (λ v. v) g.rules.now (given_by g.word) (call_place g.rule g.c + 1) (call_arity g.rules.now g.rule g.c) g.j (omega arith))
 
-pub returns : goal.returns
-returns c =
+pub returns-else-j-call_arity : goal.returns-else-j-call_arity
+returns-else-j-call_arity c =
     let g = c.args in
     argument_past (λ v. v) g.rules.now (given_by g.word) (call_place g.rule g.c + 1) (call_arity g.rules.now g.rule g.c) g.j (omega arith)

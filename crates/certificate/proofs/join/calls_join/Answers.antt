@@ -14,58 +14,60 @@ loop-c-init c =
     let e = c.positions_at-word.ensures in
     (omega arith, omega arith, rw (c.rule_at-lines.ensures, e) (λ p. p, λ p. p))
 
-pub returns-else-calls_line : goal.returns-else-calls_line
-returns-else-calls_line c =
+pub returns-then-not-calls_line : goal.returns-then-not-calls_line
+returns-then-not-calls_line c =
     let g = c.args in
     told_false
     (λ p.
-    c.calls_line.ensures.not_so c.if-calls_line.false
+    c.calls_line.ensures.not_so c.if-not-calls_line.true
     ((calls_step g.rules.now g.rule c.loop-c.c (omega (arith, c.call_count-count.ensures))).0 (c.loop-c.invariant.2.0 p)).line)
 
 pub fact_at-requires : goal.fact_at-requires
 fact_at-requires c =
-    let line = c.calls_line.ensures.so c.if-calls_line.true in
+    let line = c.calls_line.ensures.so c.if-not-calls_line.false in
     (line.some, omega (arith, line.earlier, c.requires.2))
 
 pub returns-then-shares : goal.returns-then-shares
 returns-then-shares c =
     let g = c.args in
+    let e : c.part_of-part.result ≡ part_of (fact_at g.words.now (c.loop-c.lines % 65536)) = c.part_of-part.ensures ∙ ap part_of c.fact_at.ensures in
     told_false
     (λ p.
     ((calls_step g.rules.now g.rule c.loop-c.c (omega (arith, c.call_count-count.ensures))).0 (c.loop-c.invariant.2.0 p)).disjoint
-    (rw (← (let part_is' : (c.part_of-part.result ≡ part_of (fact_at c.args.words.now (c.loop-c.lines % 65536))) = c.part_of-part.ensures ∙ ap part_of c.fact_at.ensures in part_is')) (c.shares.ensures.so c.if-shares.true)))
+    (rw (← e) (c.shares.ensures.so c.if-shares.true)))
 
 pub overflow_add-sum : goal.overflow_add-sum
-overflow_add-sum c = record {
-  fits = (let small' : c.part_of-part.result + c.loop-c.sum < 65536 = sum_small c.part_of-part.result c.loop-c.sum (omega (arith, c.part_of-part.ensures)) c.loop-c.invariant.1
-      (c.shares.ensures.not_so c.if-shares.false) in small');
-}
+overflow_add-sum c =
+    let small = sum_small c.part_of-part.result c.loop-c.sum (omega (arith, c.part_of-part.ensures)) c.loop-c.invariant.1 (c.shares.ensures.not_so c.if-shares.false) in
+    record { fits = omega (arith, small) }
 
 pub loop-c-preserved : goal.loop-c-preserved
 loop-c-preserved c =
     let g = c.args in
     let h : c.loop-c.c < call_count g.rules.now g.rule = omega (arith, c.call_count-count.ensures) in
-    let e : (c.part_of-part.result ≡ part_of (fact_at c.args.words.now (c.loop-c.lines % 65536))) = (let part_is' : (c.part_of-part.result ≡ part_of (fact_at c.args.words.now (c.loop-c.lines % 65536))) = c.part_of-part.ensures ∙ ap part_of c.fact_at.ensures in part_is') in (
+    let e : c.part_of-part.result ≡ part_of (fact_at g.words.now (c.loop-c.lines % 65536)) = c.part_of-part.ensures ∙ ap part_of c.fact_at.ensures in
+    let s : c.loop-c.sum + c.part_of-part.result ≡ c.part_of-part.result + c.loop-c.sum = omega arith in
+    let small = sum_small c.part_of-part.result c.loop-c.sum (omega (arith, c.part_of-part.ensures)) c.loop-c.invariant.1 (c.shares.ensures.not_so c.if-shares.false) in
+    let step = calls_step g.rules.now g.rule c.loop-c.c h in (
       omega arith,
-      (let small' : c.part_of-part.result + c.loop-c.sum < 65536 = sum_small c.part_of-part.result c.loop-c.sum (omega (arith, c.part_of-part.ensures)) c.loop-c.invariant.1
-          (c.shares.ensures.not_so c.if-shares.false) in small'),
+      omega (arith, small),
       (
-        λ p. rw e ((calls_step g.rules.now g.rule c.loop-c.c h).0 (c.loop-c.invariant.2.0 p)).rest,
-        λ p. c.loop-c.invariant.2.1 ((calls_step g.rules.now g.rule c.loop-c.c h).1
-            (record { line = c.calls_line.ensures.so c.if-calls_line.true; disjoint = rw (← e) (c.shares.ensures.not_so c.if-shares.false); rest = rw (← e) p })),
+        λ p. rw (s, e) (step.0 (c.loop-c.invariant.2.0 p)).rest,
+        λ p. c.loop-c.invariant.2.1 (step.1
+            (record { line = c.calls_line.ensures.so c.if-not-calls_line.false; disjoint = rw (← e) (c.shares.ensures.not_so c.if-shares.false); rest = rw (← e) (rw s at p) })),
       ),
     )
 
-pub returns-then-lines-ne0 : goal.returns-then-lines-ne0
-returns-then-lines-ne0 c =
+pub returns-else-lines-eq0 : goal.returns-else-lines-eq0
+returns-else-lines-eq0 c =
     let g = c.args in
-    told_false (λ p. c.if-lines-ne0.true ((calls_done g.rules.now g.rule c.loop-c.c (omega (arith, c.call_count-count.ensures))).0 (c.loop-c.invariant.2.0 p)).0)
+    told_equal c.loop-c.lines 0 (λ e. absurd (c.if-lines-eq0.false e)) (λ p. ((calls_done g.rules.now g.rule c.loop-c.c (omega (arith, c.call_count-count.ensures))).0 (c.loop-c.invariant.2.0 p)).0)
 
-pub returns : goal.returns
-returns c =
+pub returns-then-lines-eq0 : goal.returns-then-lines-eq0
+returns-then-lines-eq0 c =
     let g = c.args in
     let done = calls_done g.rules.now g.rule c.loop-c.c (omega (arith, c.call_count-count.ensures)) in
-    let e : c.part_of.result ≡ part_of (fact_at g.words.now g.k) = c.part_of.ensures ∙ ap part_of c.fact_at-2.ensures in
+    let e : c.part_of.result ≡ part_of (fact_at g.words.now g.k) = c.part_of.ensures ∙ ap part_of c.fact_at-then-lines-eq0.ensures in
     told_equal c.loop-c.sum c.part_of.result
-    (λ q. c.loop-c.invariant.2.1 (done.1 (c.if-lines-ne0.false, q ∙ e)))
+    (λ q. c.loop-c.invariant.2.1 (done.1 (c.if-lines-eq0.true, q ∙ e)))
     (λ p. (done.0 (c.loop-c.invariant.2.0 p)).1 ∙ sym e)

@@ -1,21 +1,17 @@
--- `find_record` passes the records one by one: none of those passed is as asked for, so the first that is comes first.
-use borrow.Author.{Count.below_none, Count.below_more}
+-- `find_record` finds the first record as asked for.
 use native.Mathlib.Omega.{arith}
-use Rattle.certificate.specs.Line.FoundRecord.{found, none}
+use mathlib.Core.Path.{◌≡◌}
+use Rattle.std.proofs.Common.{rules}
+use Rattle.words.proofs.Ranges.{told_first, option_as}
+use Rattle.semantics.specs.{Heap.Record, Tree.asked}
+use Rattle.block.specs.Layout.{atom_in, record_in, atom_place, record_place}
+use Rattle.certificate.specs.Line.{given_by}
 use Rattle.certificate.proofs.rule.find_record.Goals as goal
-
-pub loop-i-init : goal.loop-i-init
-loop-i-init c = (omega arith, below_none _)
-
-pub returns-then-record_matches : goal.returns-then-record_matches
-returns-then-record_matches c =
-    let l = c.loop-i in
-    found (record { below = omega arith; is = c.record_matches.ensures.so c.if-record_matches.true; first = l.invariant.1 })
-
-pub loop-i-preserved : goal.loop-i-preserved
-loop-i-preserved c = (omega arith, below_more _ _ c.loop-i.invariant.1 (c.record_matches.ensures.not_so c.if-record_matches.false))
 
 pub returns : goal.returns
 returns c =
-    let l = c.loop-i in
-    none c.record_count-count.ensures.0 (λ i h. l.invariant.1 i (omega arith))
+    let g = c.args in
+    let wanted : Record = asked (given_by g.word) (atom_in g.rules.now (atom_place g.rule g.g)) in
+    option_as c.find.result (λ n i h. n i (omega arith) (omega (arith, c.record_count.ensures)))
+    (λ i f. record { below = omega (arith, f.1, c.record_count.ensures); is = f.2; first = λ j h. f.3 j (omega arith) h })
+    (told_first _ _ _ _ (λ i. record_in g.records.now (record_place i) ≡ wanted) c.find.ensures.ran (λ x q b k. (search rules, search rules)))

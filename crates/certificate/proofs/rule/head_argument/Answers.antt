@@ -6,5 +6,5 @@ use Rattle.certificate.proofs.rule.head_argument.Goals as goal
 pub returns-then-j-count : goal.returns-then-j-count
 returns-then-j-count c = let g = c.args in c.variable_of.ensures ∙ head_at g.word g.count g.j c.if-j-count.true
 
-pub returns : goal.returns
-returns c = let g = c.args in head_past g.word g.count g.j c.if-j-count.false
+pub returns-else-j-count : goal.returns-else-j-count
+returns-else-j-count c = let g = c.args in head_past g.word g.count g.j c.if-j-count.false

@@ -7,7 +7,7 @@ use Rattle.certificate.proofs.Reading.{variable_beyond}
 use Rattle.certificate.proofs.rule.variable.Goals as goal
 
 pub returns-then-v-lt8 : goal.returns-then-v-lt8
-returns-then-v-lt8 c = c.variable_of.ensures ∙ ap (λ (v : ℕ). get_or (given_by c.args.word) v 0) c.wide.ensures.0
+returns-then-v-lt8 c = c.variable_of.ensures ∙ ap (λ (v : ℕ). get_or (given_by c.args.word) v 0) c.from.ensures
 
-pub returns : goal.returns
-returns c = variable_beyond c.args.word c.args.v c.if-v-lt8.false
+pub returns-else-v-lt8 : goal.returns-else-v-lt8
+returns-else-v-lt8 c = variable_beyond c.args.word c.args.v c.if-v-lt8.false

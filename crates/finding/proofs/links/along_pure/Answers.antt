@@ -1,4 +1,5 @@
 -- `along_pure` goes along an equality from the left, or else from the right; a condition of the other kind leads nowhere.
+use Rattle.block.proofs.KindTests.{kind_unequal}
 use mathlib.Core.{Path.◌≡◌, Logic.◌≢◌}
 use native.Mathlib.Omega.{arith}
 use Rattle.semantics.specs.Tree.{value_of}
@@ -9,9 +10,9 @@ use Rattle.finding.proofs.{Learning.along_still, Known.valued_small}
 use Rattle.finding.proofs.Equalities.{along_right, along_left}
 use Rattle.finding.proofs.links.along_pure.Goals as goal
 
-pub returns-then-pure_kind-ne0 : goal.returns-then-pure_kind-ne0
-returns-then-pure_kind-ne0 c =
-    let other : pure_kind c.args.rules.now c.args.rule c.args.k ≢ 0 = λ e. omega (arith, c.pure_kind.ensures, c.if-pure_kind-ne0.true) in
+pub returns-then-eq : goal.returns-then-eq
+returns-then-eq c =
+    let other : pure_kind c.args.rules.now c.args.rule c.args.k ≢ 0 = (kind_unequal c.kind_of.result c.kind_of.ensures).0 (rw c.eq.ensures at c.if-eq.true) in
     (along_still (record { to_right = λ e v. absurd (other e); to_left = λ e v. absurd (other e) }), c.requires.2)
 
 pub entry-x-requires : goal.entry-x-requires
@@ -26,7 +27,7 @@ pub returns-then-x-lt-OPEN : goal.returns-then-x-lt-OPEN
 returns-then-x-lt-OPEN c =
     let g = c.args in
     let is = (let left_is' : let g = c.args in c.entry-x.result ≡ value_of g.values.now (term_as (fixed_in g.given.now) (pure_left g.rules.now g.rule g.k)) = rw c.pure_left-left.ensures at c.entry-x.ensures in left_is') in (
-      along_right (fixed_in g.given.now) g.rules.now g.rule g.k c.requires.0 c.requires.1 (omega (arith, c.pure_kind.ensures, c.if-pure_kind-ne0.false))
+      along_right (fixed_in g.given.now) g.rules.now g.rule g.k c.requires.0 c.requires.1 ((kind_unequal c.kind_of.result c.kind_of.ensures).1 (rw c.eq.ensures at c.if-eq.false))
           c.requires.2.eight (omega (arith, is, c.if-x-lt-OPEN.true)) (rw (is, c.pure_right-right.ensures) at c.learn.ensures.0),
       c.learn.ensures.1,
     )
@@ -44,7 +45,7 @@ returns-then-y-lt-OPEN c =
     let g = c.args in
     let is = (let right_is' : let g = c.args in
     c.entry-y.result ≡ value_of g.values.now (term_as (fixed_in g.given.now) (pure_right g.rules.now g.rule g.k)) = rw c.pure_right-right.ensures at c.entry-y.ensures in right_is') in (
-      along_left (fixed_in g.given.now) g.rules.now g.rule g.k c.requires.0 c.requires.1 (omega (arith, c.pure_kind.ensures, c.if-pure_kind-ne0.false))
+      along_left (fixed_in g.given.now) g.rules.now g.rule g.k c.requires.0 c.requires.1 ((kind_unequal c.kind_of.result c.kind_of.ensures).1 (rw c.eq.ensures at c.if-eq.false))
           c.requires.2.eight (omega (arith, is, c.if-y-lt-OPEN.true)) (rw (is, c.pure_left-left.ensures) at c.learn-then-y-lt-OPEN.ensures.0),
       c.learn-then-y-lt-OPEN.ensures.1,
     )

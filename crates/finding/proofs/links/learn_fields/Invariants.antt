@@ -1,5 +1,5 @@
 -- `learn_fields` gives the terms their fields one by one.
-use Prim.Native.Nat.{◌-◌, ◌≤◌}
+use Prim.Native.Nat.{◌≤◌}
 use Rattle.finding.specs.Values.{Counted}
 use Rattle.finding.specs.Links.{AlongFields}
 use Rattle.finding.proofs.links.learn_fields.Given as goal
@@ -7,6 +7,3 @@ use Rattle.finding.proofs.links.learn_fields.Given as goal
 abbrev pub invariant-loop-j : goal.invariant-loop-j
 invariant-loop-j l =
     (l.j ≤ l.count) × AlongFields l.rules l.terms l.heap l.i l.j l.initial.values l.values × Counted l.values l.left
-
-abbrev pub decreases-loop-j : goal.decreases-loop-j
-decreases-loop-j l = l.count - l.j

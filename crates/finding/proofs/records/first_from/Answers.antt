@@ -11,13 +11,13 @@ loop-low-init c =
     let e = c.record_count-high.ensures.0 in
     (omega arith, omega (arith, e), λ i h. absurd (omega arith), λ i h l. absurd (omega (arith, e)), records_few c.args.heap.now c.requires)
 
-pub loop-low-preserved-then-long-address : goal.loop-low-preserved-then-long-address
-loop-low-preserved-then-long-address c =
+pub loop-low-preserved-then-from-address : goal.loop-low-preserved-then-from-address
+loop-low-preserved-then-from-address c =
     let l = c.loop-low in
     let m : ℕ = (l.low + l.high) / 2 in (
       omega arith,
       l.invariant.1,
-      up c.args.heap.now c.requires c.args.address m (omega (arith, l.invariant.1, c.loop-low-test.true)) (omega (arith, c.long.ensures, c.record_address.ensures, c.if-long-address.true)),
+      up c.args.heap.now c.requires c.args.address m (omega (arith, l.invariant.1, c.loop-low-test.true)) (omega (arith, c.from.ensures, c.record_address.ensures, c.if-from-address.true)),
       l.invariant.3,
       l.invariant.4,
     )
@@ -29,7 +29,7 @@ loop-low-preserved c =
       omega arith,
       omega arith,
       l.invariant.2,
-      down c.args.heap.now c.requires c.args.address m (omega (arith, c.long.ensures, c.record_address.ensures, c.if-long-address.false)),
+      down c.args.heap.now c.requires c.args.address m (omega (arith, c.from.ensures, c.record_address.ensures, c.if-from-address.false)),
       l.invariant.4,
     )
 

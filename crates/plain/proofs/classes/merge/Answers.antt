@@ -22,16 +22,16 @@ loop-k-preserved c =
       c.merge_pure.ensures.1,
       merged_more {Met = EqualsMet (fixed_in g.given.now) g.rules.now g.rule g.shared c.loop-k.k} {Next = EqualMet (fixed_in g.given.now) g.rules.now g.rule g.shared c.loop-k.k}
           {All = EqualsMet (fixed_in g.given.now) g.rules.now g.rule g.shared (c.loop-k.k + 1)}
-          (λ σ a j h. a j (omega arith)) (λ σ a. a c.loop-k.k (omega arith)) c.loop-k.invariant.2 (λ σ m n. below_more _ _ m n) c.if-merge_pure.true c.merge_pure.ensures.0,
+          (λ σ a j h. a j (omega arith)) (λ σ a. a c.loop-k.k (omega arith)) c.loop-k.invariant.2 (λ σ m n. below_more _ _ m n) c.if-not-merge_pure.false c.merge_pure.ensures.0,
     )
 
-pub returns-else-merge_pure : goal.returns-else-merge_pure
-returns-else-merge_pure c =
+pub returns-then-not-merge_pure : goal.returns-then-not-merge_pure
+returns-then-not-merge_pure c =
     let g = c.args in (
       Merged.never refl
           (merged_never {Met = EqualsMet (fixed_in g.given.now) g.rules.now g.rule g.shared c.loop-k.k} {Next = EqualMet (fixed_in g.given.now) g.rules.now g.rule g.shared c.loop-k.k}
           {All = EqualsMet (fixed_in g.given.now) g.rules.now g.rule g.shared (pure_count g.rules.now g.rule)}
-          (λ σ a j h. a j (omega (arith, c.pure_count-count.ensures.0))) (λ σ a. a c.loop-k.k (omega (arith, c.pure_count-count.ensures.0))) c.loop-k.invariant.2 c.if-merge_pure.false c.merge_pure.ensures.0),
+          (λ σ a j h. a j (omega (arith, c.pure_count-count.ensures.0))) (λ σ a. a c.loop-k.k (omega (arith, c.pure_count-count.ensures.0))) c.loop-k.invariant.2 c.if-not-merge_pure.true c.merge_pure.ensures.0),
       c.merge_pure.ensures.1,
     )
 

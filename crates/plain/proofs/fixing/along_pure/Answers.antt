@@ -1,4 +1,5 @@
 -- `along_pure` passes an equality from the left to the right and back; a condition of the other kind leads nowhere.
+use Rattle.block.proofs.KindTests.{kind_unequal}
 use borrow.Author.Rules.{rules}
 use mathlib.Core.{Path.◌≡◌, Path.ap, Path.◌∙◌, Logic.◌≢◌, List.List}
 use Prim.Native.Nat.{ℕ, ◌+◌, ◌<◌}
@@ -23,10 +24,10 @@ one-term {rules} {rule} f k place t h l e s = record {
 right-place : (rules : List ℕ) (rule k place : ℕ) → place ≡ pure_place rule k + 1 → get_or rules (place + 1) 0 ≡ pure_right rules rule k
 right-place rules rule k place e = let there : place + 1 ≡ pure_place rule k + 2 = omega arith in ap (λ (j : ℕ). get_or rules j 0) there
 
-pub returns-then-pure_kind-ne0 : goal.returns-then-pure_kind-ne0
-returns-then-pure_kind-ne0 c =
+pub returns-then-eq : goal.returns-then-eq
+returns-then-eq c =
     let g = c.args in
-    let other : pure_kind g.rules.now g.rule g.k ≢ 0 = λ e. omega (arith, c.pure_kind.ensures, c.if-pure_kind-ne0.true) in
+    let other : pure_kind g.rules.now g.rule g.k ≢ 0 = ((kind_unequal c.kind_of.result c.kind_of.ensures).0 (rw c.eq.ensures at c.if-eq.true)) in
     (along_other c.requires.0 g.k c.requires.1 other g.values.now, c.requires.2)
 
 pub pass-some-requires : goal.pass-some-requires
@@ -54,7 +55,7 @@ pass-requires c =
 pub returns : goal.returns
 returns c =
     let g = c.args in (
-      along_both c.requires.0 g.k c.requires.1 (omega (arith, c.pure_kind.ensures, c.if-pure_kind-ne0.false)) _ _ _ c.pure_left.ensures
+      along_both c.requires.0 g.k c.requires.1 ((kind_unequal c.kind_of.result c.kind_of.ensures).1 (rw c.eq.ensures at c.if-eq.false)) _ _ _ c.pure_left.ensures
           c.pure_right.ensures c.pure_terms-terms.ensures g.values.now c.pass-some.new.values c.pass.new.values c.pass-some.ensures.0 c.pass.ensures.0,
       c.pass.ensures.1,
     )

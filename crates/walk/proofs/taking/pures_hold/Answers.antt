@@ -1,21 +1,14 @@
--- `pures_hold` passes the conditions one by one: those passed hold, and the first that does not is the answer no.
-use borrow.Author.{Count.below_none, Count.below_more}
+-- `pures_hold` tests each condition.
+use Prim.Native.Nat.{ℕ}
 use native.Mathlib.Omega.{arith}
-use Rattle.words.proofs.Answers.{told_true, told_false}
+use Rattle.std.proofs.Common.{rules}
+use Rattle.semantics.specs.Tree.{Meets}
+use Rattle.block.specs.Layout.{pure_as, fixed_in, pure_place}
+use Rattle.words.proofs.{Answers.told_as, Ranges.told_all}
 use Rattle.walk.proofs.taking.pures_hold.Goals as goal
-
-pub loop-k-init : goal.loop-k-init
-loop-k-init c = (omega arith, below_none _)
-
-pub loop-k-preserved : goal.loop-k-preserved
-loop-k-preserved c = (omega arith, below_more _ _ c.loop-k.invariant.1 (c.pure_holds.ensures.so c.if-pure_holds.true))
-
-pub returns-else-pure_holds : goal.returns-else-pure_holds
-returns-else-pure_holds c =
-    let l = c.loop-k in
-    told_false (λ p. c.pure_holds.ensures.not_so c.if-pure_holds.false (p l.k (omega arith)))
 
 pub returns : goal.returns
 returns c =
-    let l = c.loop-k in
-    told_true (λ j h. l.invariant.1 j (omega arith))
+    let g = c.args in
+    told_as (λ p k h. p k (omega arith) (omega (arith, c.pure_count.ensures))) (λ p k low high. p k (omega (arith, c.pure_count.ensures)))
+    (told_all _ _ _ _ (λ (k : ℕ). Meets g.values.now (pure_as (fixed_in g.given.now) g.rules.now (pure_place g.rule k))) c.all.ensures.ran (λ x q b k. (search rules, search rules)))

@@ -1,23 +1,15 @@
 -- `record_matches` compares the numbers of fields, then the fields; the address is given.
 use native.Mathlib.Omega.{arith}
 use Rattle.block.specs.Layout.{fixed_in}
-use Rattle.words.proofs.Answers.{told_false}
+use Rattle.words.proofs.Answers.{told_equal}
 use Rattle.block.proofs.{Scopes.formed_fields, TermsInBlock.size_asked, TermsInBlock.record_told}
 use Rattle.walk.proofs.taking.record_matches.Goals as goal
 
-pub returns-then-record_size-count : goal.returns-then-record_size-count
-returns-then-record_size-count c =
+pub returns-else-record_size-count : goal.returns-else-record_size-count
+returns-else-record_size-count c =
     let g = c.args in
-    told_false
-    (λ e.
-    absurd
-    (omega (
-      arith,
-      c.if-record_size-count.true,
-      c.record_size.ensures.0,
-      size_asked (fixed_in g.given.now) g.rules.now g.rule g.g g.values.now g.heap.now g.i e,
-      c.atom_size-count.ensures.0,
-    )))
+    told_equal c.record_size.result c.atom_size-count.result (λ q. absurd (c.if-record_size-count.false q))
+    (λ e. omega (arith, c.record_size.ensures.0, size_asked (fixed_in g.given.now) g.rules.now g.rule g.g g.values.now g.heap.now g.i e, c.atom_size-count.ensures.0))
 
 pub fields_match-requires : goal.fields_match-requires
 fields_match-requires c = (
@@ -27,9 +19,9 @@ fields_match-requires c = (
   c.requires.4,
 )
 
-pub returns : goal.returns
-returns c =
+pub returns-then-record_size-count : goal.returns-then-record_size-count
+returns-then-record_size-count c =
     let g = c.args in
     record_told (fixed_in g.given.now) g.rules.now g.rule g.g g.values.now g.heap.now g.i c.requires.3
-    (omega (arith, c.record_size.ensures.0, c.if-record_size-count.false, c.atom_size-count.ensures.0))
+    (omega (arith, c.record_size.ensures.0, c.if-record_size-count.true, c.atom_size-count.ensures.0))
     (rw (c.atom_fields.ensures, c.atom_size-count.ensures.0) at c.fields_match.ensures)

@@ -3,20 +3,24 @@
 -- fuel is the measure.
 use mathlib.Core.{Path.◌∙◌}
 use native.Mathlib.Omega.{arith}
+use Rattle.std.specs.Prelude.{None, Some}
 use Rattle.semantics.proofs.{WalkSteps.fuel_stop, WalkSteps.node_stop, WalkLoops.left_start, WalkLoops.left_end, WalkLoops.left_stop, WalkLoops.left_next}
 use Rattle.block.specs.Layout.{fixed_in}
-use Rattle.walk.proofs.Descending.{call_here, calls_past, call_outcome, chosen_outcome, choice_made, choice_none}
+use Rattle.walk.proofs.Descending.{call_here, calls_past, call_outcome, chosen_outcome}
 use Rattle.walk.proofs.unfolding.+descend.Goals as goal
 
 -- ---- before the loop
 pub returns-then-fuel-eq0 : goal.returns-then-fuel-eq0
 returns-then-fuel-eq0 t c = record { outcome = rw c.if-fuel-eq0.true (fuel_stop _ _) }
 
-pub choose-choice-requires : goal.choose-choice-requires
-choose-choice-requires t c = c.requires
+pub choose-requires : goal.choose-requires
+choose-requires t c = c.requires
+
+pub returns-in_err-choice : goal.returns-in_err-choice
+returns-in_err-choice t c = rw c.from_residual.ensures (record { outcome = node_stop _ _ (λ plain rule. c.in_err-choice.ensures rule plain) })
 
 pub call_count-count-requires : goal.call_count-count-requires
-call_count-count-requires t c = (choice_made c.choose-choice.ensures c.if-choice.true).place.formed.inside
+call_count-count-requires t c = c.in_ok-choice.ensures.place.formed.inside
 
 pub loop-c-init : goal.loop-c-init
 loop-c-init t c = (omega arith, left_start)
@@ -24,59 +28,51 @@ loop-c-init t c = (omega arith, left_start)
 -- ---- a turn
 pub call_predicate-requires : goal.call_predicate-requires
 call_predicate-requires t c =
-    let f = (choice_made c.choose-choice.ensures c.if-choice.true).place.formed in
+    let f = c.in_ok-choice.ensures.place.formed in
     (f.inside, omega (arith, c.loop-c-test.true, c.call_count-count.ensures.0, f.ready.calls_few))
 
 pub call_arguments-below-requires : goal.call_arguments-below-requires
 call_arguments-below-requires t c =
-    let made = choice_made c.choose-choice.ensures c.if-choice.true in (
+    let made = c.in_ok-choice.ensures in (
       made.place,
       omega (arith, c.loop-c-test.true, c.call_count-count.ensures.0),
       made.all_known,
       c.requires.0.rules_read,
     )
 
-pub descend-next-requires : goal.descend-next-requires
-descend-next-requires t c =
-    let f = (choice_made c.choose-choice.ensures c.if-choice.true).place.formed in
+pub descend-requires : goal.descend-requires
+descend-requires t c =
+    let f = c.in_ok-choice.ensures.place.formed in
     let named = f.ready.call_named c.loop-c.c (omega (arith, c.loop-c-test.true, c.call_count-count.ensures.0)) in (
       omega (arith, c.decreases, c.if-fuel-eq0.false),
       (
         c.requires.0,
-        omega (arith, named, c.wide-called.ensures.0, c.call_predicate.ensures),
+        omega (arith, named, c.from-called.ensures, c.call_predicate.ensures),
         c.call_arguments-below.ensures.all_known,
       ),
     )
 
-pub returns-else-next : goal.returns-else-next
-returns-else-next t c =
+pub returns-in_err-after : goal.returns-in_err-after
+returns-in_err-after t c =
     let g = c.args in
-    let made = choice_made c.choose-choice.ensures c.if-choice.true in
-    let here = call_here (fixed_in g.given.now) g.rules.now c.choose-choice.result.rule c.loop-c.c (omega (arith, c.loop-c-test.true, c.call_count-count.ensures.0)) in
+    let here = call_here (fixed_in g.given.now) g.rules.now c.in_ok-choice.choice.rule c.loop-c.c (omega (arith, c.loop-c-test.true, c.call_count-count.ensures.0)) in
     let called =
-    call_outcome g.given.now g.rules.now g.heap.now c.choose-choice.result.rule c.loop-c.c _
-    (c.wide-called.ensures.0 ∙ c.call_predicate.ensures) c.call_arguments-below.ensures c.descend-next.ensures c.if-next.false in
-    record {
-      outcome = rw c.if-next.false
-          (chosen_outcome c.requires.0 c.if-fuel-eq0.false made (left_stop c.loop-c.invariant.1 here called));
-    }
+    call_outcome g.given.now g.rules.now g.heap.now c.in_ok-choice.choice.rule c.loop-c.c _ None
+    (c.from-called.ensures ∙ c.call_predicate.ensures) c.call_arguments-below.ensures c.in_err-after.ensures in
+    rw c.from_residual-in_err-after.ensures (record { outcome = chosen_outcome c.requires.0 c.if-fuel-eq0.false c.in_ok-choice.ensures (left_stop c.loop-c.invariant.1 here called) })
 
 pub loop-c-preserved : goal.loop-c-preserved
 loop-c-preserved t c =
     let g = c.args in
-    let here = call_here (fixed_in g.given.now) g.rules.now c.choose-choice.result.rule c.loop-c.c (omega (arith, c.loop-c-test.true, c.call_count-count.ensures.0)) in
+    let here = call_here (fixed_in g.given.now) g.rules.now c.in_ok-choice.choice.rule c.loop-c.c (omega (arith, c.loop-c-test.true, c.call_count-count.ensures.0)) in
     let called =
-    call_outcome g.given.now g.rules.now g.heap.now c.choose-choice.result.rule c.loop-c.c _
-    (c.wide-called.ensures.0 ∙ c.call_predicate.ensures) c.call_arguments-below.ensures c.descend-next.ensures c.if-next.true in
+    call_outcome g.given.now g.rules.now g.heap.now c.in_ok-choice.choice.rule c.loop-c.c _ (Some c.in_ok-after.after)
+    (c.from-called.ensures ∙ c.call_predicate.ensures) c.call_arguments-below.ensures c.in_ok-after.ensures in
     (omega (arith, c.loop-c-test.true), left_next c.loop-c.invariant.1 here c.requires.0.heap_formed.ordered called)
 
 -- ---- after it
-pub returns-then-choice : goal.returns-then-choice
-returns-then-choice t c =
-    let g = c.args in
-    let made = choice_made c.choose-choice.ensures c.if-choice.true in
-    let past = calls_past (fixed_in g.given.now) g.rules.now c.choose-choice.result.rule c.loop-c.c (omega (arith, c.call_count-count.ensures.0)) in
-    record { outcome = chosen_outcome c.requires.0 c.if-fuel-eq0.false made (left_end c.loop-c.invariant.1 past) }
-
 pub returns : goal.returns
-returns t c = record { outcome = node_stop _ _ (λ plain rule. choice_none c.choose-choice.ensures c.if-choice.false rule plain) }
+returns t c =
+    let g = c.args in
+    let past = calls_past (fixed_in g.given.now) g.rules.now c.in_ok-choice.choice.rule c.loop-c.c (omega (arith, c.call_count-count.ensures.0)) in
+    record { outcome = chosen_outcome c.requires.0 c.if-fuel-eq0.false c.in_ok-choice.ensures (left_end c.loop-c.invariant.1 past) }

@@ -11,8 +11,5 @@ abbrev pub invariant-loop-c : goal.invariant-loop-c
 invariant-loop-c l =
     (l.c ≤ l.count) × CallsLeft (rule_set_read l.given l.rules) (heap_in l.heap) (l.fuel - 1) (values_in l.rules l.rule l.values) (rule_as (fixed_in l.given) l.rules l.rule).calls l.initial.after l.c l.after
 
-abbrev pub decreases-loop-c : goal.decreases-loop-c
-decreases-loop-c l = l.count - l.c
-
 abbrev pub decreases-descend : goal.decreases-descend
 decreases-descend l = l.fuel

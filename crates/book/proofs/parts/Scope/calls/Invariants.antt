@@ -1,0 +1,7 @@
+-- After k turns k calls are filled; the arities stand below them and stay.
+use Rattle.book.specs.BookLayout.{arities_in, call_layout}
+use Rattle.reader.proofs.Section.{Filled}
+use Rattle.book.proofs.parts.Scope.calls.Given as goal
+
+abbrev pub invariant-loop-k : goal.invariant-loop-k
+invariant-loop-k l = Filled (call_layout (arities_in l.initial.block) l.self.given.now l.self.variables) l.from l.initial.reader l.initial.block l.k l.reader l.block

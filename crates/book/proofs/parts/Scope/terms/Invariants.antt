@@ -1,0 +1,7 @@
+-- After k turns k terms are filled.
+use Rattle.book.specs.BookLayout.{term_layout}
+use Rattle.reader.proofs.Section.{Filled}
+use Rattle.book.proofs.parts.Scope.terms.Given as goal
+
+abbrev pub invariant-loop-k : goal.invariant-loop-k
+invariant-loop-k l = Filled (term_layout l.self.given.now l.self.variables) l.from l.initial.reader l.initial.block l.k l.reader l.block
