@@ -33,6 +33,6 @@ pub returns : goal.returns
 returns c =
     let g = c.args in
     told_as {P = ExcludesLater (rule_set_read g.given.now g.rules.now) g.r}
-        (plain_here c.requires.0 g.r c.rule_place-rule.result c.requires.1 c.rule_place-rule.ensures (c.consumes.ensures.so c.if-not-consumes.false)
-        (c.fixes.ensures.so c.if-not-fixes.false))
-        (λ plain. plain.excludes) c.excludes_later.ensures
+    (plain_here c.requires.0 g.r c.rule_place-rule.result c.requires.1 c.rule_place-rule.ensures (c.consumes.ensures.so c.if-not-consumes.false)
+    (c.fixes.ensures.so c.if-not-fixes.false))
+    (λ plain. plain.excludes) c.excludes_later.ensures
