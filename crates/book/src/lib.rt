@@ -6,6 +6,7 @@ mod parts;
 ghost use Rattle.block.specs.Layout.{first_arity, constant_count, first_rule, query_size, rule_set_size, rule_size};
 ghost use Rattle.std.specs.Prelude.{◌≡◌, ◌+◌, ◌*◌, ◌≤◌, ◌<◌, length};
 ghost use Rattle.reader.specs.Layout.{Fills, Gives, many};
+ghost use Rattle.reader.specs.Unread.{unread};
 ghost use Rattle.book.specs.BookLayout.{count_layout, name_layout, arities_in, Header, rule_layout, ConstantsFill, RuleSetFills, RulesRead};
 
 use block::{
@@ -36,7 +37,7 @@ fn count(
     most: u8,
 ) -> Result<u8, Refusal>
     requires { at < length block.old }
-    ensures { Gives (count_layout least most) at reader.old reader.new block.old block.new result }
+    ensures { Gives (count_layout least most) at (unread reader.old) (unread reader.new) block.old block.new result }
 {
     let count = reader.ranged(Refusal::BookEnds, Refusal::BookCount, least, most)?;
     block[at] = count;
@@ -46,7 +47,7 @@ fn count(
 // One of `n` predicates or variables.
 fn named(reader: &mut Reader, block: &mut [u8], at: usize, n: u8) -> Result<u8, Refusal>
     requires { at < length block.old }
-    ensures { Gives (name_layout n) at reader.old reader.new block.old block.new result }
+    ensures { Gives (name_layout n) at (unread reader.old) (unread reader.new) block.old block.new result }
 {
     let name = reader.below(Refusal::BookEnds, Refusal::BookName, n)?;
     block[at] = name;
@@ -56,7 +57,7 @@ fn named(reader: &mut Reader, block: &mut [u8], at: usize, n: u8) -> Result<u8, 
 // A rule: head, number of bound variables, and body. Head and bound variables are at most 8 together.
 fn rule(reader: &mut Reader, block: &mut [u8], at: usize, given: &QueryBlock) -> Result<(), Refusal>
     requires { Header block.old × (first_rule ≤ at) × (at + rule_size ≤ length block.old) × (constant_count given.now ≤ 8) }
-    ensures { Fills (rule_layout (arities_in block.old) given.now) at reader.old reader.new block.old block.new result }
+    ensures { Fills (rule_layout (arities_in block.old) given.now) at (unread reader.old) (unread reader.new) block.old block.new result }
 {
     let predicates = block[PREDICATES];
     let head = named(reader, block, at, predicates)?;
@@ -78,7 +79,7 @@ fn rules(
     given: &QueryBlock,
 ) -> Result<(), Refusal>
     requires { Header block.old × (first_rule ≤ from) × (from + rule_size * count ≤ length block.old) × (constant_count given.now ≤ 8) }
-    ensures { Fills (many count (rule_layout (arities_in block.old) given.now)) from reader.old reader.new block.old block.new result }
+    ensures { Fills (many count (rule_layout (arities_in block.old) given.now)) from (unread reader.old) (unread reader.new) block.old block.new result }
 {
     for k in 0..usize::from(count) {
         rule(reader, block, from + RULE_SIZE * k, given)?;
@@ -89,7 +90,7 @@ fn rules(
 // The numbers of arguments of the predicates.
 fn arities(reader: &mut Reader, block: &mut [u8], predicates: u8) -> Result<(), Refusal>
     requires { first_arity + predicates ≤ length block.old }
-    ensures { Fills (many predicates (count_layout 0 4)) first_arity reader.old reader.new block.old block.new result }
+    ensures { Fills (many predicates (count_layout 0 4)) first_arity (unread reader.old) (unread reader.new) block.old block.new result }
 {
     for k in 0..usize::from(predicates) {
         count(reader, block, ARITIES + k, 0, MOST_ARGUMENTS)?;
@@ -100,7 +101,7 @@ fn arities(reader: &mut Reader, block: &mut [u8], predicates: u8) -> Result<(), 
 // The constants, each of four bytes.
 fn constants(reader: &mut Reader, query: &mut [u32]) -> Result<(), Refusal>
     requires { length query.old ≡ query_size }
-    ensures { ConstantsFill reader.old reader.new query.old query.new result }
+    ensures { ConstantsFill (unread reader.old) (unread reader.new) query.old query.new result }
 {
     let count = reader.ranged(Refusal::BookEnds, Refusal::BookCount, 0, MOST_CONSTANTS)?;
     query[CONSTANTS] = u32::from(count);
@@ -116,7 +117,7 @@ fn constants(reader: &mut Reader, query: &mut [u32]) -> Result<(), Refusal>
 // The whole rule set: the predicates' numbers of arguments, the constants, and the rules.
 fn rule_set(reader: &mut Reader, block: &mut [u8], query: &mut QueryBlock) -> Result<(), Refusal>
     requires { length block.old ≡ rule_set_size }
-    ensures { RuleSetFills reader.old reader.new block.old block.new query.new result }
+    ensures { RuleSetFills (unread reader.old) (unread reader.new) block.old block.new query.new result }
 {
     let predicates = count(reader, block, PREDICATES, 1, MOST_PREDICATES)?;
     arities(reader, block, predicates)?;

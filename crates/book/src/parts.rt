@@ -2,6 +2,7 @@
 ghost use Rattle.block.specs.Layout.{atom_room, call_size, constant_count, first_rule, pure_size, rule_size};
 ghost use Rattle.std.specs.Prelude.{◌+◌, ◌*◌, ◌≤◌, ◌<◌, length};
 ghost use Rattle.reader.specs.Layout.{Fills, many};
+ghost use Rattle.reader.specs.Unread.{unread};
 ghost use Rattle.book.specs.BookLayout.{term_layout, pure_layout, atom_layout, arities_in, Header, call_layout, Held, Body};
 
 use super::{count, named};
@@ -60,7 +61,7 @@ impl Scope<'_> {
     // A term.
     fn term(&self, reader: &mut Reader, block: &mut [u8], at: usize) -> Result<(), Refusal>
         requires { at < length block.old }
-        ensures { Fills (term_layout self.now.given.now self.now.variables) at reader.old reader.new block.old block.new result }
+        ensures { Fills (term_layout self.now.given.now self.now.variables) at (unread reader.old) (unread reader.new) block.old block.new result }
     {
         let b = reader.byte(Refusal::BookEnds)?;
         block[at] = self.held(b)?;
@@ -76,7 +77,7 @@ impl Scope<'_> {
         count: u8,
     ) -> Result<(), Refusal>
         requires { from + count ≤ length block.old }
-        ensures { Fills (many count (term_layout self.now.given.now self.now.variables)) from reader.old reader.new block.old block.new result }
+        ensures { Fills (many count (term_layout self.now.given.now self.now.variables)) from (unread reader.old) (unread reader.new) block.old block.new result }
     {
         for k in 0..usize::from(count) {
             self.term(reader, block, from + k)?;
@@ -87,7 +88,7 @@ impl Scope<'_> {
     // A pure condition: its kind and two terms.
     fn pure(&self, reader: &mut Reader, block: &mut [u8], at: usize) -> Result<(), Refusal>
         requires { at + pure_size ≤ length block.old }
-        ensures { Fills (pure_layout self.now.given.now self.now.variables) at reader.old reader.new block.old block.new result }
+        ensures { Fills (pure_layout self.now.given.now self.now.variables) at (unread reader.old) (unread reader.new) block.old block.new result }
     {
         named(reader, block, at, KINDS)?;
         self.term(reader, block, at + LEFT)?;
@@ -103,7 +104,7 @@ impl Scope<'_> {
         count: u8,
     ) -> Result<(), Refusal>
         requires { from + pure_size * count ≤ length block.old }
-        ensures { Fills (many count (pure_layout self.now.given.now self.now.variables)) from reader.old reader.new block.old block.new result }
+        ensures { Fills (many count (pure_layout self.now.given.now self.now.variables)) from (unread reader.old) (unread reader.new) block.old block.new result }
     {
         for k in 0..usize::from(count) {
             self.pure(reader, block, from + PURE_SIZE * k)?;
@@ -114,7 +115,7 @@ impl Scope<'_> {
     // A points-to atom: its address, a variable, and 0 to 4 fields.
     fn atom(&self, reader: &mut Reader, block: &mut [u8], at: usize) -> Result<(), Refusal>
         requires { at + atom_room ≤ length block.old }
-        ensures { Fills (atom_layout self.now.given.now self.now.variables) at reader.old reader.new block.old block.new result }
+        ensures { Fills (atom_layout self.now.given.now self.now.variables) at (unread reader.old) (unread reader.new) block.old block.new result }
     {
         named(reader, block, at, self.variables)?;
         let fields = count(reader, block, at + SIZE, 0, MOST_FIELDS)?;
@@ -130,7 +131,7 @@ impl Scope<'_> {
         count: u8,
     ) -> Result<(), Refusal>
         requires { from + atom_room * count ≤ length block.old }
-        ensures { Fills (many count (atom_layout self.now.given.now self.now.variables)) from reader.old reader.new block.old block.new result }
+        ensures { Fills (many count (atom_layout self.now.given.now self.now.variables)) from (unread reader.old) (unread reader.new) block.old block.new result }
     {
         for k in 0..usize::from(count) {
             self.atom(reader, block, from + ATOM_SIZE * k)?;
@@ -141,7 +142,7 @@ impl Scope<'_> {
     // A call: a predicate, and a term for each of its arguments.
     fn call(&self, reader: &mut Reader, block: &mut [u8], at: usize) -> Result<(), Refusal>
         requires { Header block.old × (first_rule ≤ at) × (at + call_size ≤ length block.old) }
-        ensures { Fills (call_layout (arities_in block.old) self.now.given.now self.now.variables) at reader.old reader.new block.old block.new result }
+        ensures { Fills (call_layout (arities_in block.old) self.now.given.now self.now.variables) at (unread reader.old) (unread reader.new) block.old block.new result }
     {
         let predicates = block[PREDICATES];
         let predicate = named(reader, block, at, predicates)?;
@@ -158,7 +159,7 @@ impl Scope<'_> {
         count: u8,
     ) -> Result<(), Refusal>
         requires { Header block.old × (first_rule ≤ from) × (from + call_size * count ≤ length block.old) }
-        ensures { Fills (many count (call_layout (arities_in block.old) self.now.given.now self.now.variables)) from reader.old reader.new block.old block.new result }
+        ensures { Fills (many count (call_layout (arities_in block.old) self.now.given.now self.now.variables)) from (unread reader.old) (unread reader.new) block.old block.new result }
     {
         for k in 0..usize::from(count) {
             self.call(reader, block, from + CALL_SIZE * k)?;
@@ -174,7 +175,7 @@ impl Scope<'_> {
         at: usize,
     ) -> Result<(), Refusal>
         requires { Header block.old × (first_rule ≤ at) × (at + rule_size ≤ length block.old) }
-        ensures { Body at self.now.variables self.now.given.now reader.old reader.new block.old block.new result }
+        ensures { Body at self.now.variables self.now.given.now (unread reader.old) (unread reader.new) block.old block.new result }
     {
         let pures = count(reader, block, at + PURES, 0, MOST_PURES)?;
         self.pures(reader, block, at + FIRST_PURE, pures)?;

@@ -1,4 +1,6 @@
 // The engine with the memory that a case lends it. Each word of it is 1 before the call.
+ghost use Rattle.std.specs.Prelude.{◌≤◌, length};
+
 use sections::Sections;
 
 // The last of the facts in the table, or 0 where there is none.
@@ -10,7 +12,9 @@ fn last(table: &[u64], facts: usize) -> u64 {
 }
 
 // How many of the words are not 0.
-pub(crate) fn used(words: &[u64]) -> u64 {
+pub(crate) fn used(words: &[u64]) -> u64
+    ensures { result ≤ length words.now }
+{
     words.iter().filter(|word| **word != 0).count() as u64
 }
 

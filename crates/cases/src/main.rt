@@ -8,13 +8,17 @@ mod lent;
 mod parts;
 mod walks;
 
+ghost use Rattle.std.specs.Prelude.{◌≤◌, length};
+
 use input::read_full;
 use sections::{Sections, split, take_section};
 use semantics::CheckReply;
 use std::io;
 
 // The words of eight bytes each, lowest first, as many as there is room for.
-fn load<'a>(bytes: &[u8], words: &'a mut [u64]) -> &'a [u64] {
+fn load<'a>(bytes: &[u8], words: &'a mut [u64]) -> &'a [u64]
+    ensures { length result.now ≤ length words.old }
+{
     let (chunks, _) = bytes.as_chunks();
     let count = chunks.len().min(words.len());
     for (word, chunk) in words.iter_mut().zip(chunks) {

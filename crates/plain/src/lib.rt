@@ -31,7 +31,10 @@ fn plain_rule(rules: &RuleBlock, r: usize, given: &QueryBlock) -> bool
     ensures { Told result (PlainRule (rule_set_read given.now rules.now) r) }
 {
     let rule = rule_place(r);
-    consumes(rules, rule) && fixes(rules, rule) && excludes_later(rules, r, given)
+    if !consumes(rules, rule) || !fixes(rules, rule) {
+        return false;
+    }
+    excludes_later(rules, r, given)
 }
 
 // Whether the rule set is plain.

@@ -5,30 +5,22 @@
 pub mod bytes;
 pub mod fields;
 
-ghost use Rattle.std.specs.Prelude.{◌≡◌};
+ghost use Rattle.std.specs.Prelude.{◌≡◌, ◌≤◌, length};
 
-use std::marker::Model;
-
-// The lent bytes, and the place where reading them stands. A contract sees the bytes that are left.
-#[derive(Drop)]
+// The lent bytes, and the place where reading them stands. A contract speaks of the bytes that are left, `unread`.
+#[derive(Clone, Copy)]
 pub struct Reader<'a> {
     bytes: &'a [u8],
     at: usize,
-}
-
-impl<'a> Model for Reader<'a> {
-    ghost use Rattle.std.specs.Prelude.{List, ℕ, ◌≤◌, length, drop};
-
-    ghost Value = { List ℕ };
-
-    ghost view = { λ r. drop r.at r.bytes.now };
-
-    ghost invariant = { λ r. r.at ≤ length r.bytes.now };
+    ghost within: { at ≤ length bytes.now },
 }
 
 impl<'a> Reader<'a> {
+    ghost use Rattle.reader.specs.Unread.{unread};
+
+    #[tactic(auto, unfolding(crate::specs::Unread::unread))]
     pub fn new(bytes: &'a [u8]) -> Reader<'a>
-        ensures { result ≡ bytes.now }
+        ensures { unread result ≡ bytes.now }
     {
         Reader { bytes, at: 0 }
     }

@@ -5,6 +5,7 @@ ghost use Rattle.block.specs.Layout.{first_record, heap_size, record_room};
 ghost use Rattle.std.specs.Prelude.{◌≡◌, ◌+◌, ◌*◌, ◌≤◌, ◌<◌, length};
 ghost use Rattle.snapshot.specs.HeapLayout.{address_layout, size_layout, record_layout, records_layout, HeapRead};
 ghost use Rattle.reader.specs.Layout.{Fills, Gives};
+ghost use Rattle.reader.specs.Unread.{unread};
 
 use block::{FIELDS, FIRST_RECORD, RECORD_SIZE, RECORDS, SIZE};
 use reader::Reader;
@@ -19,7 +20,7 @@ const MOST_FIELDS: u8 = 4;
 // An address above `low`, which is the one before, and not the end mark. Before the first stands 0.
 fn address(reader: &mut Reader, heap: &mut [u32], at: usize, low: u32) -> Result<u32, Refusal>
     requires { at < length heap.old }
-    ensures { Gives (address_layout low) at reader.old reader.new heap.old heap.new result }
+    ensures { Gives (address_layout low) at (unread reader.old) (unread reader.new) heap.old heap.new result }
 {
     let here = reader.word(Refusal::SnapshotEnds)?;
     if low < here && here != END_MARK {
@@ -33,7 +34,7 @@ fn address(reader: &mut Reader, heap: &mut [u32], at: usize, low: u32) -> Result
 // A count of at most `most`.
 fn size(reader: &mut Reader, heap: &mut [u32], at: usize, most: u8) -> Result<u8, Refusal>
     requires { at < length heap.old }
-    ensures { Gives (size_layout most) at reader.old reader.new heap.old heap.new result }
+    ensures { Gives (size_layout most) at (unread reader.old) (unread reader.new) heap.old heap.new result }
 {
     let size = reader.ranged(Refusal::SnapshotEnds, Refusal::SnapshotCount, 0, most)?;
     heap[at] = u32::from(size);
@@ -43,7 +44,7 @@ fn size(reader: &mut Reader, heap: &mut [u32], at: usize, most: u8) -> Result<u8
 // A record: its address, which is above `low`, and its 0 to 4 fields.
 fn record(reader: &mut Reader, heap: &mut [u32], at: usize, low: u32) -> Result<u32, Refusal>
     requires { at + record_room ≤ length heap.old }
-    ensures { Gives (record_layout low) at reader.old reader.new heap.old heap.new result }
+    ensures { Gives (record_layout low) at (unread reader.old) (unread reader.new) heap.old heap.new result }
 {
     let here = address(reader, heap, at, low)?;
     let fields = size(reader, heap, at + SIZE, MOST_FIELDS)?;
@@ -60,7 +61,7 @@ fn record(reader: &mut Reader, heap: &mut [u32], at: usize, low: u32) -> Result<
 // `count` records, each above the one before.
 fn records(reader: &mut Reader, heap: &mut [u32], count: usize) -> Result<(), Refusal>
     requires { first_record + record_room * count ≤ length heap.old }
-    ensures { Fills (records_layout count) first_record reader.old reader.new heap.old heap.new result }
+    ensures { Fills (records_layout count) first_record (unread reader.old) (unread reader.new) heap.old heap.new result }
 {
     let mut low = 0;
     for k in 0..count {

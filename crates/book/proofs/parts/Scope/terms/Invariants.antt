@@ -1,7 +1,8 @@
 -- After k turns k terms are filled.
 use Rattle.book.specs.BookLayout.{term_layout}
+use Rattle.reader.specs.Unread.{unread}
 use Rattle.reader.proofs.Section.{Filled}
 use Rattle.book.proofs.parts.Scope.terms.Given as goal
 
 abbrev pub invariant-loop-k : goal.invariant-loop-k
-invariant-loop-k l = Filled (term_layout l.self.given.now l.self.variables) l.from l.initial.reader l.initial.block l.k l.reader l.block
+invariant-loop-k l = Filled (term_layout l.self.given.now l.self.variables) l.from (unread l.initial.reader) l.initial.block l.k (unread l.reader) l.block
