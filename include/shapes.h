@@ -22,7 +22,7 @@
  * Lengths count bytes, or words of 64 bits. Nothing is allocated or kept, and nothing outside what is lent is read or written. A block of
  * length 0 may have any pointer that is not null and is aligned for its type; no two blocks that are written may overlap each other or one
  * that is read. The calls share nothing, so several threads may call them at once, each with memory of its own. On the stack
- * shapes_decide uses 92,368 bytes, shapes_part 92,384, either check 3,304 and shapes_walk 8,264, the most with tables of 1,024 and of
+ * shapes_decide uses 92,256 bytes, shapes_part 92,272, either check 3,304 and shapes_walk 8,264, the most with tables of 1,024 and of
  * 65,535 words and with 16 records one below the other, measured by compare/memory.sh.
  */
 #ifndef SHAPES_H
